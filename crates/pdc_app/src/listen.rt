@@ -5,7 +5,7 @@ use crate::{DONE, FAILED};
 use pdc_command_line::Listen;
 use pdc_network::{ListenFault, UdpSource, listen};
 use std::io;
-use std::io::BufWriter;
+use std::io::{BufWriter, ErrorKind};
 use std::net::Net;
 use std::sync::Wait;
 
@@ -41,6 +41,8 @@ fn listen_to<R: AllocGlobal + Print + Eprint + Wait>(
 ) -> io::Result<u8> {
     match print_datagrams(rt, source, asked.count) {
         Ok(()) => Ok(DONE),
+        // whoever read the lines has read enough
+        Err(ListenFault::Write(error)) if error.kind() == ErrorKind::BrokenPipe => Ok(DONE),
         Err(fault) => {
             report_listen(rt, &fault, asked.port)?;
             Ok(FAILED)

@@ -7,6 +7,7 @@ mod listen;
 mod loading;
 mod mark_convert;
 mod mark_init;
+mod owner;
 mod play;
 mod pmu;
 mod running;

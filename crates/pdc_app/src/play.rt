@@ -22,7 +22,7 @@ fn load(
 }
 
 /// Tells why there are no settings in this file, and answers the exit status that it gives.
-fn refuse(rt: &impl Eprint, file: &str, fault: &LoadFault) -> io::Result<u8> {
+fn refuse(rt: &HostRuntime, file: &str, fault: &LoadFault) -> io::Result<u8> {
     print_fault(rt, fault)?;
     report_load(rt, "play", file, fault)?;
     Ok(fault.status())

@@ -2,13 +2,17 @@
 
 use crate::complaint::{NamedPort, complain, complain_at, complain_of, print_fault};
 use crate::controlling::{end_control, open_control};
-use crate::loading::report_load;
+use crate::loading::{report_load, report_port};
+use crate::owner::report_mark;
 use crate::{DONE, FAILED};
 use pdc_command_line::Running;
 use pdc_service::{
-    Control, ControlSocket, Files, Host, HubFault, Limits, RecordFile, RunOptions, ServiceFault,
+    Control, ControlSocket, Host, HubFault, Limits, RecordFile, RunOptions, ServiceFault,
     ThisMachine, Totals, serve_control, serve_merger, serve_node,
 };
+use std::fs::File;
+use std::net::SocketAddr;
+use std::rt::Files;
 use std::thread::Scope;
 use std::{io, thread};
 
@@ -52,9 +56,21 @@ fn complain_of_record(
     eprintln!(rt; "pdc {command}: the first file of the record {name}: {error}")
 }
 
+/// Tells that a port was not opened, and which two tables have it, where two have.
+fn complain_of_port<R: Files<File = File> + AllocGlobal + Eprint>(
+    rt: &R,
+    command: &str,
+    settings: &str,
+    at: SocketAddr,
+    error: &io::Error,
+) -> io::Result<()> {
+    complain_at(rt, command, &NamedPort { kind: "", at }, error)?;
+    report_port(rt, command, settings, at.port())
+}
+
 /// Tells what a fault is about, and the reason.
-fn tell_fault(
-    rt: &impl Eprint,
+fn tell_fault<R: Files<File = File> + AllocGlobal + Eprint>(
+    rt: &R,
     command: &str,
     fault: &ServiceFault,
     request: &Running,
@@ -64,15 +80,8 @@ fn tell_fault(
         ServiceFault::Settings(fault) => report_load(rt, command, settings, fault),
         ServiceFault::MarkUnopened(error) => complain_of(rt, command, mark, error),
         ServiceFault::MarkInUse => complain_of(rt, command, mark, &"in use by another process"),
-        ServiceFault::Mark(_) => complain_of(
-            rt,
-            command,
-            mark,
-            &"the run cannot begin with this mark",
-        ),
-        ServiceFault::Port(at, error) => {
-            complain_at(rt, command, &NamedPort { kind: "", at: *at }, error)
-        }
+        ServiceFault::Mark(fault) => report_mark(rt, command, request, *fault),
+        ServiceFault::Port(at, error) => complain_of_port(rt, command, settings, *at, error),
         ServiceFault::Output(number, error) => {
             complain_of_output(rt, command, settings, *number, error)
         }
@@ -84,8 +93,8 @@ fn tell_fault(
 }
 
 /// Prints the fault to standard error, and on a second line the file or the port with the reason. Answers the exit status.
-fn report_fault(
-    rt: &impl Eprint,
+fn report_fault<R: Files<File = File> + AllocGlobal + Eprint>(
+    rt: &R,
     command: &str,
     fault: &ServiceFault,
     request: &Running,
@@ -96,7 +105,7 @@ fn report_fault(
 }
 
 /// Prints what came of a run, and answers the exit status.
-fn report_run<R: Print + Eprint>(
+fn report_run<R: Host + Print>(
     rt: &R,
     command: &str,
     request: &Running,
@@ -112,8 +121,8 @@ fn report_run<R: Print + Eprint>(
 const MEBIBYTE: u64 = 1048576;
 
 /// The files that a command names.
-fn files_of<'a>(request: &Running<'a>) -> Files<'a> {
-    Files {
+fn files_of<'a>(request: &Running<'a>) -> pdc_service::Files<'a> {
+    pdc_service::Files {
         settings: request.settings,
         mark: request.mark,
         record: request.record.map(|record| RecordFile {
@@ -121,6 +130,7 @@ fn files_of<'a>(request: &Running<'a>) -> Files<'a> {
             limits: Limits {
                 size: u64::from(record.size) * MEBIBYTE,
                 keep: record.keep,
+                lives: record.lives,
             },
         }),
     }

@@ -6,7 +6,7 @@ use pdc_check::{
     Level, Misfit, Outline, alike, findings, mark_misfits, misfits, port_findings, port_misfits,
     read_outline,
 };
-use pdc_settings::{SettingsFault, unknown_keys};
+use pdc_settings::{Mistake, SettingsFault, mistake_in, unknown_keys};
 use std::alloc::Global;
 use std::fs::File;
 use std::rt::Files;
@@ -24,24 +24,6 @@ const FAILED: u8 = 3;
 struct Checked<'a> {
     file: &'a str,
     outline: Outline,
-}
-
-/// Tells why a file is no settings, in the words of the run.
-fn tell_fault(
-    rt: &impl Print,
-    totals: &mut Totals,
-    file: &str,
-    fault: SettingsFault,
-) -> io::Result<()> {
-    match fault {
-        SettingsFault::Toml => tell(rt, totals, Level::Error, file, &"it is no TOML"),
-        SettingsFault::Range(wanted) => tell(rt, totals, Level::Error, file, &wanted),
-        SettingsFault::DoubledId => {
-            let text = "two ids are the same that must differ";
-            tell(rt, totals, Level::Error, file, &text)
-        }
-        SettingsFault::NoMemory => tell(rt, totals, Level::Error, file, &"it is not read"),
-    }
 }
 
 /// Tells the keys of a text that nothing reads.
@@ -142,7 +124,8 @@ fn check_text(
             Ok(Some(outline))
         }
         Err(fault) => {
-            tell_fault(rt, totals, file, fault)?;
+            let mistake = mistake_in(rt.alloc(), text, fault);
+            tell(rt, totals, Level::Error, file, &mistake)?;
             Ok(None)
         }
     }
@@ -158,7 +141,8 @@ fn check_bytes(
     match String::from_utf8(bytes) {
         Ok(text) => check_text(rt, totals, file, &text),
         Err(_) => {
-            tell_fault(rt, totals, file, SettingsFault::Toml)?;
+            let mistake = Mistake::Fault(SettingsFault::Toml);
+            tell(rt, totals, Level::Error, file, &mistake)?;
             Ok(None)
         }
     }

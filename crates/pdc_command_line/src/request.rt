@@ -139,6 +139,8 @@ pub struct Record<'a> {
     pub size: u32,
     /// How many files stay, at least 1; if there is none, all do.
     pub keep: Option<u32>,
+    /// Of how many lives the files stay, the one that begins among them, if not those of all.
+    pub lives: Option<u32>,
 }
 
 /// A UDP port that is to be listened at.

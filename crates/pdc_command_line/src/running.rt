@@ -34,7 +34,9 @@ With --record it writes a record to FILE.START.000001 and the files that follow:
 its time and its answer, each tick, and each frame that it sends. START is the start number, which
 rises at each run, so that no file is overwritten. `pdc replay` checks the record, and `pdc explain`
 explains why a block is absent. The run does not wait for the disk: if the disk is too slow, the
-record has a gap, and a line reports it.
+record has a gap, and a line reports it. If a file cannot be written, a new one is tried every 5
+seconds. --record-keep counts the files of this run alone. --record-lives counts runs, this one
+included: at its start it removes the files of older runs of this node beside FILE, and nothing else.
 
 With --control it makes a Unix socket at PATH that only its own user can use. `pdc stop PATH` ends
 the run as after its last tick, and `pdc status PATH` prints its counters. A signal ends the run too,
@@ -102,7 +104,12 @@ const WANTED: &[Wanted<'static>] = &[
     Wanted(
         "record-keep",
         Form::Beside("FILES", "record"),
-        "Keep only this many of the last record files; default all",
+        "Keep only this many of the last record files of this run; default all",
+    ),
+    Wanted(
+        "record-lives",
+        Form::Beside("LIVES", "record"),
+        "Keep only the record files of this many last runs, this one included; default all",
     ),
     Wanted(
         "control",
@@ -137,11 +144,15 @@ fn record_of<'a>(matches: &ArgMatches<'a>) -> Result<Option<Record<'a>>, Wrong<'
     let keep = matches.get_str("record-keep");
     let name = "--record-keep <FILES>";
     let keep = optional_number_of(name, keep, u32::MAX)?;
+    let lives = matches.get_str("record-lives");
+    let name = "--record-lives <LIVES>";
+    let lives = optional_number_of(name, lives, u32::MAX)?;
     match matches.get_str("record") {
         Some(name) => Ok(Some(Record {
             name,
             size: size.unwrap_or(RECORD_SIZE),
             keep,
+            lives,
         })),
         None => Ok(None),
     }

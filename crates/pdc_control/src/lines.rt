@@ -1,82 +1,68 @@
 //! How a run stands, as lines: those that a run with `--every` tells.
 
-use pdc_journal::{LeftOut, MergedSource, OutputTally, Refusal, RunCounters, Tally, counters_line};
-use pdc_ports::{Counts, Told};
+use pdc_journal::{
+    LeftOut, OutputTally, RunCounters, Tally, counters_line, left_out_line, lost_line,
+    missing_line, output_line, strangers_line, tally_line,
+};
+use pdc_ports::Told;
 use std::alloc::{AllocError, Global};
-use std::fmt::Write;
 use std::sync::Wait;
 use std::sync::atomic::Ordering;
 
-/// Appends each cause that refused any, as `, B4 Late 3`.
-fn append_causes(counts: &Counts, text: &mut String) -> Result<(), AllocError> {
-    for cause in Refusal::ALL {
-        let count = counts.refused_as(cause);
-        if count > 0 {
-            let name = cause.text();
-            write!(text, ", {name} {count}")?;
+/// Appends a line.
+fn append_line(line: Result<String, AllocError>, text: &mut String) -> Result<(), AllocError> {
+    text.push_str(line?.as_str())?;
+    text.push('\n')
+}
+
+/// Appends the lines of a stream: that of its answers where any was refused, that of strangers and that of connections where there are any.
+fn append_stream<R: Wait>(
+    rt: &R,
+    alloc: Global,
+    tally: &Tally,
+    text: &mut String,
+) -> Result<(), AllocError> {
+    let counts = tally.counts(rt);
+    if counts.refused > 0 {
+        append_line(tally_line(alloc, tally.of, &counts), text)?;
+    }
+    if tally.strangers() > 0 {
+        append_line(strangers_line(alloc, tally), text)?;
+    }
+    if tally.lost() > 0 {
+        append_line(lost_line(alloc, tally), text)?;
+    }
+    Ok(())
+}
+
+/// Appends the line of each destination that frames could not be sent to.
+fn append_outputs(
+    alloc: Global,
+    outputs: &[OutputTally],
+    text: &mut String,
+) -> Result<(), AllocError> {
+    for output in outputs {
+        if output.unsent() > 0 {
+            append_line(output_line(alloc, output), text)?;
         }
     }
     Ok(())
 }
 
-/// Appends the lines of a stream: that of its answers where any was refused, that of strangers and that of connections where there are any.
-fn append_stream<R: Wait>(rt: &R, tally: &Tally, text: &mut String) -> Result<(), AllocError> {
-    let counts = tally.counts(rt);
-    let (of, taken, refused) = (tally.of, counts.taken, counts.refused);
-    if refused > 0 {
-        write!(text, "{of}: taken={taken} refused={refused}")?;
-        append_causes(&counts, text)?;
-        text.push('\n')?;
-    }
-    let strangers = tally.strangers();
-    if strangers > 0 {
-        write!(
-            text,
-            "{of}: strangers={strangers}, datagrams from another address\n"
-        )?;
-    }
-    let lost = tally.lost();
-    if lost > 0 {
-        write!(
-            text,
-            "{of}: lost={lost}, connections that ended or were refused\n"
-        )?;
-    }
-    Ok(())
-}
-
-/// Appends the line of a destination that frames could not be sent to.
-fn append_output(output: &OutputTally, text: &mut String) -> Result<(), AllocError> {
-    let (to, unsent) = (output.to.as_str(), output.unsent());
-    if unsent == 0 {
-        return Ok(());
-    }
-    match output.reason() {
-        Some(reason) => write!(text, "output {to}: unsent={unsent}, {reason}\n"),
-        None => write!(text, "output {to}: unsent={unsent}\n"),
-    }
-}
-
-/// Appends the line of a PMU of which the merger left out blocks.
-fn append_left_out(merged: &MergedSource, text: &mut String) -> Result<(), AllocError> {
-    let (source, left_out) = (merged.source, merged.left_out);
-    if left_out == 0 {
-        return Ok(());
-    }
-    write!(
-        text,
-        "PMU {source}: left_out={left_out}, blocks under a count that was not in force\n"
-    )
-}
-
-/// Appends the lines of all PMUs of which the merger left out blocks.
-fn append_all_left_out<R: Wait>(
+/// Appends the line of each PMU that the merger has no data of, and of each that it left out blocks of.
+fn append_left_out<R: Wait>(
     rt: &R,
+    alloc: Global,
     left_out: &LeftOut,
     text: &mut String,
 ) -> Result<(), AllocError> {
+    for source in left_out.missing.pmus(rt) {
+        append_line(missing_line(alloc, source), text)?;
+    }
     for merged in left_out.sources(rt) {
-        append_left_out(&merged, text)?;
+        if merged.left_out > 0 {
+            append_line(left_out_line(alloc, &merged), text)?;
+        }
     }
     Ok(())
 }
@@ -92,16 +78,15 @@ pub fn status_lines<R: Wait>(
     told: &Told,
     counters: &RunCounters<'_>,
 ) -> Result<String, AllocError> {
-    let mut text = counters_line(alloc, told, counters.unsent.load(Ordering::Relaxed))?;
-    text.push('\n')?;
+    let mut text = String::new(alloc);
+    let unsent = counters.unsent.load(Ordering::Relaxed);
+    append_line(counters_line(alloc, told, unsent), &mut text)?;
     for tally in counters.tallies {
-        append_stream(rt, tally, &mut text)?;
+        append_stream(rt, alloc, tally, &mut text)?;
     }
-    for output in counters.outputs {
-        append_output(output, &mut text)?;
-    }
+    append_outputs(alloc, counters.outputs, &mut text)?;
     if let Some(left_out) = counters.left_out {
-        append_all_left_out(rt, left_out, &mut text)?;
+        append_left_out(rt, alloc, left_out, &mut text)?;
     }
     Ok(text)
 }

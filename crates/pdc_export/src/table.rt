@@ -1,4 +1,6 @@
 //! Blocks as rows of CSV.
+ghost use Rattle.std.specs.Prelude.{◌≡◌, IfOk};
+ghost use Rattle.pdc_export.specs.Plain.{is_formula, plain_name};
 
 use csv::Writer;
 use pdc_cfg::SectionView;
@@ -12,6 +14,9 @@ const ABSENT: &str = "";
 
 /// The columns that every table has.
 const FIXED: &str = "time,stream,pmu,id,stat,stat_words,frequency_Hz,rocof_Hz_s";
+
+/// How many these are.
+const FIXED_COUNT: usize = 8;
 
 /// A channel that has columns of its own, whichever PMU has it.
 #[derive(Drop)]
@@ -29,22 +34,69 @@ pub struct Columns {
     columns: Vec<Column>,
 }
 
-/// A text as one field of a row, in quotes where it needs them.
-fn field_text(alloc: Global, text: &str) -> Result<Vec<u8>, AllocError> {
-    if text.is_empty() {
+/// Whether a spreadsheet would take a text for a formula, by its first byte.
+fn is_formula(text: &[u8]) -> bool
+    ensures { result ≡ is_formula text.now }
+{
+    match text.first() {
+        Some(byte) => matches!(*byte, b'=' | b'+' | b'-' | b'@' | b'\t' | b'\r'),
+        None => false,
+    }
+}
+
+/// A name as a spreadsheet takes it for a text: behind a `'` where it would take it for a formula.
+fn plain_name(alloc: Global, name: &[u8]) -> Result<Vec<u8>, AllocError>
+    ensures { IfOk result (λ plain. plain.items ≡ plain_name name.now) }
+{
+    let mut plain = Vec::new(alloc);
+    if is_formula(name) {
+        plain.extend_from_slice(b"'")?;
+    }
+    plain.extend_from_slice(name)?;
+    Ok(plain)
+}
+
+/// A name as one field of a row, in quotes where it needs them.
+fn field_text(alloc: Global, name: &str) -> Result<Vec<u8>, AllocError> {
+    if name.is_empty() {
         return Ok(Vec::new(alloc));
     }
+    let text = plain_name(alloc, name.as_bytes())?;
     let mut writer = Writer::from_writer(Vec::new(alloc));
     writer
-        .write_fields(&[text.as_bytes()])
+        .write_fields(&[text.as_slice()])
         .map_err(|_| AllocError)?;
     let mut row = writer.into_inner().map_err(|_| AllocError)?;
     row.pop();
     Ok(row)
 }
 
-/// Appends the names of the columns of a channel, each behind a comma.
-fn append_names(alloc: Global, column: &Column, out: &mut Vec<u8>) -> Result<(), AllocError> {
+/// A name that no column has yet: where one has it, a `#` and the number of the column among those of channels stand behind, as often as it takes.
+/// Each time it grows, so none is tried twice, and one more than there are columns are enough.
+fn free_name(alloc: Global, names: &[String], name: String) -> Result<String, AllocError> {
+    let number = names.len().saturating_add(1);
+    let mut free = name;
+    for _ in 0..names.len().saturating_add(FIXED_COUNT) {
+        if !is_taken(names, free.as_str()) {
+            return Ok(free);
+        }
+        free = format!(in alloc; "{free}#{number}")?;
+    }
+    Ok(free)
+}
+
+/// Whether a column is called so.
+fn is_taken(names: &[String], name: &str) -> bool {
+    FIXED.split(',').any(|fixed| fixed == name) || names.iter().any(|taken| taken.as_str() == name)
+}
+
+/// Appends the names of the columns of a channel, each behind a comma, and keeps them with those of the columns before.
+fn append_names(
+    alloc: Global,
+    column: &Column,
+    names: &mut Vec<String>,
+    out: &mut Vec<u8>,
+) -> Result<(), AllocError> {
     let endings: &[&str] = match column.kind {
         Kind::Voltage => &["_magnitude_V", "_angle_rad", "_re_V", "_im_V"],
         Kind::Current => &["_magnitude_A", "_angle_rad", "_re_A", "_im_A"],
@@ -53,8 +105,10 @@ fn append_names(alloc: Global, column: &Column, out: &mut Vec<u8>) -> Result<(),
     for ending in endings {
         let label = column.label.as_str();
         let name = format!(in alloc; "{label}{ending}")?;
+        let name = free_name(alloc, names.as_slice(), name)?;
         out.extend_from_slice(b",")?;
         out.extend_from_slice(field_text(alloc, name.as_str())?.as_slice())?;
+        names.push(name).map_err(|_| AllocError)?;
     }
     Ok(())
 }
@@ -158,8 +212,9 @@ impl Columns {
     /// [`AllocError`] where there is no room and none is got.
     pub fn append_header(&self, out: &mut Vec<u8>) -> Result<(), AllocError> {
         out.extend_from_slice(FIXED.as_bytes())?;
+        let mut names = Vec::new(self.alloc);
         for column in self.columns.iter() {
-            append_names(self.alloc, column, out)?;
+            append_names(self.alloc, column, &mut names, out)?;
         }
         out.extend_from_slice(b"\n")
     }

@@ -34,7 +34,9 @@ mod watchers;
 
 pub use announcing_sink::{AnnouncingSink, Followers};
 pub use complaint::{CauseComplaints, Complaints};
-pub use counters::counters_line;
+pub use counters::{
+    counters_line, left_out_line, lost_line, missing_line, output_line, strangers_line, tally_line,
+};
 pub use counting_sink::CountingSink;
 pub use head::{change_in, is_data};
 pub use hearing::Hearing;

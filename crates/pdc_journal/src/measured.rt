@@ -2,6 +2,7 @@
 
 use crate::histogram::Histogram;
 use crate::left_out::MAX_SOURCES;
+use crate::missing::section_of;
 use crate::tags::Tags;
 use arrayvec::ArrayVec;
 use pdc_block::{Block, cut, is_absent};
@@ -14,15 +15,17 @@ use std::time::SystemTime;
 /// The most instants that are open at once: as many as the largest window has.
 const MAX_OPEN: usize = 256;
 
-/// A source as the layout in force has it.
+/// A source of the settings, as the layout in force has it.
 #[derive(Clone, Copy, Debug)]
 pub struct MeasuredSource {
     /// Its id; 0 where there is none in this place.
     pub source: u16,
-    /// The configuration count that was adopted.
+    /// The configuration count that was adopted; 0 where the layout has no section of it.
     pub count: u16,
     /// In how many frames its block was absent.
     pub absent: u64,
+    /// Which section of the layout is of it, if one is.
+    section: Option<usize>,
 }
 
 /// How a run stands.
@@ -39,7 +42,7 @@ pub struct Standing {
     /// The start and the change of the layout in force; 0 where there is none.
     pub start: u32,
     pub change: u32,
-    /// The sources of the layout in force, in its order.
+    /// The sources of the settings, in their order.
     pub sources: [MeasuredSource; MAX_SOURCES],
     /// How long it took from an instant's time to its publishing, by the system's clock.
     pub latency: Histogram,
@@ -77,6 +80,7 @@ const NO_SOURCE: MeasuredSource = MeasuredSource {
     source: 0,
     count: 0,
     absent: 0,
+    section: None,
 };
 
 /// The shapes of a configuration.
@@ -88,36 +92,49 @@ fn shapes_of(config: &ConfigView) -> ArrayVec<Shape, MAX_SECTIONS> {
     shapes
 }
 
-/// In how many frames the block of this source was absent so far.
-fn absent_of(sources: &[MeasuredSource; MAX_SOURCES], source: u16) -> u64 {
-    for measured in sources.iter() {
-        if measured.source == source {
-            return measured.absent;
-        }
+/// These sources, of none of which a layout has a section yet. More than 16 are passed over.
+fn sources_of(sources: &[u16]) -> [MeasuredSource; MAX_SOURCES] {
+    let mut measured = [NO_SOURCE; MAX_SOURCES];
+    for (place, source) in measured.iter_mut().zip(sources) {
+        place.source = *source;
     }
-    0
+    measured
 }
 
-/// The sources of a layout, with what was counted of them before.
-fn sources_of(
-    config: &ConfigView,
-    before: &[MeasuredSource; MAX_SOURCES],
-) -> [MeasuredSource; MAX_SOURCES] {
-    let mut sources = [NO_SOURCE; MAX_SOURCES];
-    for (place, section) in sources.iter_mut().zip(config.sections.iter().skip(1)) {
-        *place = MeasuredSource {
-            source: section.source,
-            count: section.count,
-            absent: absent_of(before, section.source),
-        };
+/// The configuration count of a section; 0 where there is none.
+fn count_in(config: &ConfigView, section: Option<usize>) -> u16 {
+    let Some(number) = section else {
+        return 0;
+    };
+    match config.sections.get(number) {
+        Some(section) => section.count,
+        None => 0,
     }
-    sources
 }
 
-/// Counts the absent ones of these blocks, the first of which is the own one.
+/// Looks which sections of a layout are of these sources.
+fn find_sections(sources: &mut [MeasuredSource], config: &ConfigView) {
+    for measured in sources.iter_mut() {
+        measured.section = section_of(config, measured.source);
+        measured.count = count_in(config, measured.section);
+    }
+}
+
+/// Whether this section has a block, and it is absent.
+fn is_absent_in(blocks: &[Block], section: Option<usize>) -> bool {
+    let Some(number) = section else {
+        return false;
+    };
+    match blocks.get(number) {
+        Some(block) => is_absent(block),
+        None => false,
+    }
+}
+
+/// Counts the sources whose blocks are absent.
 fn count_absent(sources: &mut [MeasuredSource], blocks: &[Block]) {
-    for (measured, block) in sources.iter_mut().zip(blocks.iter().skip(1)) {
-        if is_absent(block) {
+    for measured in sources.iter_mut() {
+        if is_absent_in(blocks, measured.section) {
             measured.absent = measured.absent.saturating_add(1);
         }
     }
@@ -164,8 +181,8 @@ fn above(open: &[OpenInstant], instant: u64) -> ArrayVec<OpenInstant, MAX_OPEN> 
 }
 
 impl Measured {
-    /// Nothing was taken and published yet.
-    pub fn new(tags: Tags) -> Measured {
+    /// Nothing was taken and published yet of these sources.
+    pub fn new(tags: Tags, sources: &[u16]) -> Measured {
         Measured {
             tags,
             kept: Mutex::new(Kept {
@@ -176,7 +193,7 @@ impl Measured {
                     open: 0,
                     start: 0,
                     change: 0,
-                    sources: [NO_SOURCE; MAX_SOURCES],
+                    sources: sources_of(sources),
                     latency: Histogram::new(),
                     holding: Histogram::new(),
                 },
@@ -189,9 +206,8 @@ impl Measured {
     /// This layout was adopted.
     pub fn adopt<R: Wait>(&self, rt: &R, config: &ConfigView, start: u32, change: u32) {
         let mut kept = self.kept.lock(rt);
-        let before = kept.standing.sources;
         kept.shapes = shapes_of(config);
-        kept.standing.sources = sources_of(config, &before);
+        find_sections(&mut kept.standing.sources, config);
         kept.standing.start = start;
         kept.standing.change = change;
     }

@@ -39,7 +39,7 @@ pub struct Missing {
 }
 
 /// The place of this source among the sections of a configuration.
-fn section_of(config: &ConfigView, source: u16) -> Option<usize> {
+pub fn section_of(config: &ConfigView, source: u16) -> Option<usize> {
     for (number, section) in config.sections.iter().enumerate() {
         if number > 0 && section.source == source {
             return Some(number);

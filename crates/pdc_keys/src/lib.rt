@@ -23,4 +23,4 @@ pub use limits::{MAX_COUNT, MAX_PORT, MAX_TIME_BASE, MILLISECONDS};
 pub use places::{ip_of, place_of};
 pub use unknown::{TableName, UnknownKey};
 pub use unread::Unread;
-pub use wanted::Wanted;
+pub use wanted::{Owner, Wanted};

@@ -107,6 +107,19 @@ pub fn append_cause(
     )
 }
 
+/// Appends a sample of a stream and the port that it comes to.
+pub fn append_at_port(
+    family: Family,
+    of: Of,
+    port: u16,
+    value: u64,
+    text: &mut String,
+) -> Result<(), AllocError> {
+    let name = family.name;
+    let (kind, id) = label_of(of);
+    write!(text, "{name}{{{kind}=\"{id}\",port=\"{port}\"}} {value}\n")
+}
+
 /// Appends a character of a label: `\`, `"` and line feeds are escaped.
 fn append_escaped(c: char, text: &mut String) -> Result<(), AllocError> {
     match c {

@@ -10,18 +10,26 @@
 //! [`is_own_request`] tells requests that name this machine's loopback from those that name another host, which neither server answers.
 #![tactic(auto)]
 
+mod drops;
 mod families;
 mod http_serving;
 mod metered;
+mod own_files;
 mod own_host;
 mod process;
+mod recorded;
 mod report;
 mod serving;
 mod site;
+mod stores;
 mod time;
 
+pub use drops::StreamPort;
 pub use http_serving::serve_many;
 pub use metered::Metered;
+pub use own_files::OwnFiles;
 pub use own_host::{is_own_host, is_own_name, is_own_request, loopback_port};
+pub use recorded::MeteredRecord;
 pub use report::metrics_text;
 pub use serving::serve_metrics;
+pub use stores::Stores;

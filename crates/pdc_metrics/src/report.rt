@@ -1,11 +1,15 @@
 //! All samples of a run.
 
+use crate::drops::append_dropped;
 use crate::families::{
     Family, append_cause, append_head, append_histogram, append_of, append_output, append_seconds,
     append_single,
 };
 use crate::metered::Metered;
+use crate::own_files::OwnFiles;
 use crate::process::append_process;
+use crate::recorded::append_record;
+use crate::stores::append_stores;
 use crate::time::{now_micros, tag_micros};
 use pdc_journal::{LeftOut, Of, OutputTally, Refusal, Standing, Tally};
 use std::alloc::{AllocError, Global};
@@ -74,10 +78,16 @@ const LEFT_OUT: Family = Family {
     help: "Blocks that the merger left out, since their configuration count was not in force.",
 };
 
+const MISSING: Family = Family {
+    name: "pdc_pmu_missing",
+    is_counter: false,
+    help: "1 where neither node has data of the PMU, else 0.",
+};
+
 const CONFIGURATION: Family = Family {
     name: "pdc_configuration_count",
     is_counter: false,
-    help: "The configuration count of the PMU in the layout in force.",
+    help: "The configuration count of the PMU in the layout in force, 0 where it is not in it.",
 };
 
 const OPEN: Family = Family {
@@ -239,6 +249,23 @@ fn append_left_out<R: Wait>(
     Ok(())
 }
 
+/// Which PMUs of its settings the merger has no data of: each is there, with 0 where it has.
+fn append_missing<R: Wait>(
+    rt: &R,
+    left_out: &LeftOut,
+    text: &mut String,
+) -> Result<(), AllocError> {
+    append_head(MISSING, text)?;
+    let missing = left_out.missing.pmus(rt);
+    for merged in left_out.sources(rt) {
+        if merged.source != 0 {
+            let is_missing = missing.contains(&merged.source);
+            append_of(MISSING, Of::Pmu(merged.source), u64::from(is_missing), text)?;
+        }
+    }
+    Ok(())
+}
+
 /// What was published, and what of it could not be sent.
 fn append_published(
     metered: &Metered,
@@ -251,7 +278,7 @@ fn append_published(
     append_outputs(metered.outputs, text)
 }
 
-/// What is published of each source, and what a merger left out.
+/// What is published of each source, and what a merger left out or is missing.
 fn append_sources<R: Wait>(
     rt: &R,
     metered: &Metered,
@@ -261,7 +288,19 @@ fn append_sources<R: Wait>(
     append_absent(standing, text)?;
     append_configurations(standing, text)?;
     match metered.left_out {
-        Some(left_out) => append_left_out(rt, left_out, text),
+        Some(left_out) => {
+            append_left_out(rt, left_out, text)?;
+            append_missing(rt, left_out, text)
+        }
+        None => Ok(()),
+    }
+}
+
+/// The stores of the mark, and the record, where one is written.
+fn append_kept<R: Wait>(rt: &R, metered: &Metered, text: &mut String) -> Result<(), AllocError> {
+    append_stores(rt, metered.stores, text)?;
+    match &metered.record {
+        Some(record) => append_record(record, text),
         None => Ok(()),
     }
 }
@@ -313,17 +352,20 @@ fn append_latency(standing: &Standing, text: &mut String) -> Result<(), AllocErr
 }
 
 /// All samples of a run that stands so.
-fn append_all<R: Wait + Clock>(
+fn append_all<R: Wait + Clock + OwnFiles>(
     rt: &R,
+    alloc: Global,
     metered: &Metered,
     standing: &Standing,
     text: &mut String,
 ) -> Result<(), AllocError> {
     append_streams(rt, metered.tallies, text)?;
+    append_dropped(rt, alloc, metered.ports, text)?;
     append_published(metered, standing, text)?;
     append_sources(rt, metered, standing, text)?;
     append_now(metered, standing, text)?;
     append_latency(standing, text)?;
+    append_kept(rt, metered, text)?;
     append_last(rt, metered.measured.tags.time_base, standing, text)
 }
 
@@ -332,7 +374,7 @@ fn append_all<R: Wait + Clock>(
 /// # Errors
 ///
 /// [`AllocError`] where there is no memory for it.
-pub fn metrics_text<R: Wait + Clock>(
+pub fn metrics_text<R: Wait + Clock + OwnFiles>(
     rt: &R,
     alloc: Global,
     metered: &Metered,
@@ -341,6 +383,6 @@ pub fn metrics_text<R: Wait + Clock>(
     let standing = metered.measured.standing(rt);
     let mut text = String::new(alloc);
     append_process(rt, begun, &mut text)?;
-    append_all(rt, metered, &standing, &mut text)?;
+    append_all(rt, alloc, metered, &standing, &mut text)?;
     Ok(text)
 }

@@ -2,6 +2,7 @@
 
 use crate::http_serving::serve_many;
 use crate::metered::Metered;
+use crate::own_files::OwnFiles;
 use crate::own_host::loopback_port;
 use crate::site::Site;
 use std::alloc::Global;
@@ -19,7 +20,7 @@ use std::time::Instant;
 /// # Errors
 ///
 /// The clock, the system's random bytes or the listener's address cannot be read.
-pub fn serve_metrics<R: Wait + Clock + RandomSource>(
+pub fn serve_metrics<R: Wait + Clock + RandomSource + OwnFiles>(
     rt: &R,
     alloc: Global,
     listener: &TcpListener,

@@ -2,6 +2,7 @@
 ghost use Rattle.std.specs.Prelude.{⊤};
 
 use crate::metered::Metered;
+use crate::own_files::OwnFiles;
 use crate::own_host::is_own_request;
 use crate::report::metrics_text;
 use bytes::Bytes;
@@ -17,7 +18,7 @@ const METRICS: &str = "text/plain; version=0.0.4; charset=utf-8";
 
 /// What the thread that serves answers with.
 #[derive(Drop)]
-pub struct Site<'a, R: Wait + Clock> {
+pub struct Site<'a, R: Wait + Clock + OwnFiles> {
     pub rt: &'a R,
     pub alloc: Global,
     pub metered: Metered<'a>,
@@ -63,7 +64,7 @@ fn fill(response: &mut Response, kind: HeaderValue, body: Bytes) -> Result<(), A
     response.body.push(body)
 }
 
-impl<R: Wait + Clock> Service for Site<'_, R> {
+impl<R: Wait + Clock + OwnFiles> Service for Site<'_, R> {
     ghost answers = { λ _ _ _ _. ⊤ };
 
     fn call(

@@ -1,4 +1,10 @@
 pub mod CountLimit
+pub mod Handed
 pub mod Host
 pub mod Inquiry
+pub mod Limit
+pub mod Linked
+pub mod Passing
+pub mod Received
 pub mod Round
+pub mod Sent

@@ -1,5 +1,5 @@
 //! The addresses of a host.
-ghost use Rattle.std.specs.Prelude.{◌≡◌, ◌≤◌, ◌<◌};
+ghost use Rattle.std.specs.Prelude.{◌≡◌, ◌≤◌, ◌<◌, ◌∷◌, Some, [], slice_get};
 ghost use Rattle.pdc_network.specs.Round.{next_place};
 
 use std::net::SocketAddr;
@@ -18,11 +18,12 @@ pub struct Addresses {
 }
 
 impl Addresses {
-    ghost use Rattle.pdc_network.specs.Host.{count_of, place_of};
+    ghost use Rattle.pdc_network.specs.Host.{all_of, all_with, count_of, place_of};
 
     /// A host of one address.
     pub fn new(first: SocketAddr) -> Addresses
-        ensures { (count_of result ≡ 1) × (place_of result ≡ 0) }
+        ensures all { all_of result ≡ first ∷ [] }
+        ensures place { place_of result ≡ 0 }
     {
         Addresses {
             all: [first; MAX_ADDRESSES],
@@ -33,7 +34,8 @@ impl Addresses {
 
     /// One address more; the ninth and all behind it are left out.
     pub fn push(&mut self, address: SocketAddr)
-        ensures { place_of self.new ≡ place_of self.old }
+        ensures all { all_of self.new ≡ all_with address self.old }
+        ensures place { place_of self.new ≡ place_of self.old }
     {
         if self.count < MAX_ADDRESSES {
             self.all[self.count] = address;
@@ -42,13 +44,16 @@ impl Addresses {
     }
 
     /// The one that is tried now.
-    pub fn current(&self) -> SocketAddr {
+    pub fn current(&self) -> SocketAddr
+        ensures { slice_get (all_of self.now) (place_of self.now) ≡ Some result }
+    {
         self.all[self.at]
     }
 
     /// The next one is tried from now on, and behind the last the first.
     pub fn turn(&mut self)
-        ensures { (place_of self.new ≡ next_place (count_of self.old) (place_of self.old)) × (count_of self.new ≡ count_of self.old) }
+        ensures all { all_of self.new ≡ all_of self.old }
+        ensures place { place_of self.new ≡ next_place (count_of self.old) (place_of self.old) }
     {
         let next = self.at + 1;
         self.at = if self.count <= next { 0 } else { next };

@@ -4,12 +4,12 @@ ghost use Rattle.std.specs.Prelude.{◌≡◌, ◌≤◌, ◌<◌, ℕ, IfOk, If
 use crate::addresses::Addresses;
 use crate::inquiry::{Inquiry, PATIENCE};
 use crate::loss::Loss;
+use crate::receive::is_idle;
 use pdc_frame::{Command, Framer, Step, StreamId};
 use pdc_journal::{Journal, Moment, Tally};
 use pdc_ports::{Next, Outcome};
 use pdc_session::{Counting, Unread, end_if_gone, tell};
 use std::alloc::{AllocError, Global};
-use std::io::ErrorKind;
 use std::net::{Net, SocketAddr, TcpListener, TcpStream};
 use std::rt::Clock;
 use std::sync::Wait;
@@ -87,14 +87,6 @@ fn connect<R: Net<Listener = TcpListener, Stream = TcpStream>>(
     let stream = TcpStream::connect_timeout(rt, to, Duration::from_millis(CONNECT_LIMIT))?;
     set_up(&stream)?;
     Ok(Counting::new(stream))
-}
-
-/// Whether a read only waited.
-fn is_idle(kind: ErrorKind) -> bool {
-    matches!(
-        kind,
-        ErrorKind::WouldBlock | ErrorKind::TimedOut | ErrorKind::Interrupted
-    )
 }
 
 /// Tells the stream to send its configuration, and then its data.

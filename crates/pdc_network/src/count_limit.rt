@@ -22,7 +22,8 @@ fn has_above(sections: &[SectionView<'_>], most: u16) -> bool
 
 /// Whether these bytes are a CFG-2 frame of which some section has a count above this one. Data is not read for it.
 fn is_above(bytes: &[u8], most: u16) -> bool
-    ensures { result ≡ true → IsAbove most bytes.now }
+    ensures above { result ≡ true → IsAbove most bytes.now }
+    ensures below { IsAbove most bytes.now → result ≡ true }
 {
     if is_data(bytes) {
         return false;
@@ -51,6 +52,8 @@ pub struct CountLimit<'a, R: Wait + Clock> {
 }
 
 impl<'a, R: Wait + Clock> CountLimit<'a, R> {
+    ghost use Rattle.pdc_network.specs.Limit.{count_of};
+
     /// Above this count.
     pub fn new(
         rt: &'a R,
@@ -58,7 +61,9 @@ impl<'a, R: Wait + Clock> CountLimit<'a, R> {
         journal: &'a Journal,
         tally: &'a Tally,
         most: u16,
-    ) -> CountLimit<'a, R> {
+    ) -> CountLimit<'a, R>
+        ensures { count_of result ≡ most }
+    {
         CountLimit {
             rt,
             alloc,
@@ -81,7 +86,11 @@ impl<'a, R: Wait + Clock> CountLimit<'a, R> {
     }
 
     /// Whether these bytes are left out: only a CFG-2 frame with a count above the most is.
-    pub fn leaves_out(&mut self, bytes: &[u8]) -> bool {
+    pub fn leaves_out(&mut self, bytes: &[u8]) -> bool
+        ensures above { result ≡ true → IsAbove (count_of self.old) bytes.now }
+        ensures below { IsAbove (count_of self.old) bytes.now → result ≡ true }
+        ensures same { count_of self.new ≡ count_of self.old }
+    {
         if !is_above(bytes, self.most) {
             return false;
         }

@@ -1,27 +1,29 @@
 //! The frames of a stream, however they come.
-ghost use Rattle.std.specs.Prelude.{◌≡◌, ◌≤◌, ◌<◌, ℕ, length};
+ghost use Rattle.std.specs.Prelude.{◌≡◌, ◌≢◌, ◌≤◌, ◌<◌, ℕ, false, length, true};
+ghost use Rattle.pdc_ports.specs.Heard.{heard_by};
+ghost use Rattle.pdc_network.specs.Limit.{most_of};
+ghost use Rattle.pdc_network.specs.Passing.{IsLeftOut};
 
 use crate::connection::Connection;
 use crate::count_limit::CountLimit;
 use crate::port::Port;
+use crate::receive::Receive;
+use crate::way::Way;
 use pdc_ports::{Next, Numbered, Outcome, Source};
-use std::net::{Net, TcpListener, TcpStream};
+use std::net::{Net, TcpListener, TcpStream, UdpSocket};
 use std::rt::Clock;
 use std::sync::Wait;
 
 /// How many datagrams it gives in a row.
 const MOST_IN_A_ROW: u32 = 64;
 
-/// How the frames come.
-#[derive(Drop)]
-enum Way<'a, R: Net<Listener = TcpListener, Stream = TcpStream> + Clock + Wait> {
-    Port(Port<'a, R>),
-    Connection(Connection<'a, R>),
-}
-
 /// The frames of a stream, at a port or over a connection. When it ends, its sender is told to send no more, where it was asked.
-pub struct Link<'a, R: Net<Listener = TcpListener, Stream = TcpStream> + Clock + Wait> {
-    way: Way<'a, R>,
+pub struct Link<
+    'a,
+    R: Net<Listener = TcpListener, Stream = TcpStream> + Clock + Wait,
+    S: Receive + Drop = UdpSocket,
+> {
+    way: Way<'a, R, S>,
     /// Which configurations it leaves out, if it leaves out any.
     limit: Option<CountLimit<'a, R>>,
     /// How many datagrams it gave since it was idle last.
@@ -29,11 +31,15 @@ pub struct Link<'a, R: Net<Listener = TcpListener, Stream = TcpStream> + Clock +
     failures: u64,
 }
 
-impl<'a, R: Net<Listener = TcpListener, Stream = TcpStream> + Clock + Wait> Link<'a, R> {
+impl<'a, R: Net<Listener = TcpListener, Stream = TcpStream> + Clock + Wait, S: Receive + Drop> Link<
+    'a,
+    R,
+    S,
+> {
     /// They come to this port.
-    pub fn at(port: Port<'a, R>) -> Link<'a, R> {
+    pub fn at(port: Port<'a, R, S>) -> Link<'a, R, S> {
         Link {
-            way: Way::Port(port),
+            way: Way::Datagrams(port),
             limit: None,
             in_a_row: 0,
             failures: 0,
@@ -41,9 +47,9 @@ impl<'a, R: Net<Listener = TcpListener, Stream = TcpStream> + Clock + Wait> Link
     }
 
     /// They come over this connection.
-    pub fn over(connection: Connection<'a, R>) -> Link<'a, R> {
+    pub fn over(connection: Connection<'a, R>) -> Link<'a, R, S> {
         Link {
-            way: Way::Connection(connection),
+            way: Way::Stream(connection),
             limit: None,
             in_a_row: 0,
             failures: 0,
@@ -57,14 +63,12 @@ impl<'a, R: Net<Listener = TcpListener, Stream = TcpStream> + Clock + Wait> Link
 
     /// How many bytes of datagrams wait at its port at most, where there is one and the system tells it.
     pub fn buffer(&self) -> Option<u32> {
-        match &self.way {
-            Way::Port(port) => port.buffer(),
-            Way::Connection(_) => None,
-        }
+        self.way.buffer()
     }
 }
 
-impl<'a, R: Net<Listener = TcpListener, Stream = TcpStream> + Clock + Wait> Drop for Link<'a, R> {
+impl<'a, R: Net<Listener = TcpListener, Stream = TcpStream> + Clock + Wait, S: Receive + Drop> Drop
+    for Link<'a, R, S> {
     fn drop(self) {
         let Link {
             way,
@@ -72,19 +76,42 @@ impl<'a, R: Net<Listener = TcpListener, Stream = TcpStream> + Clock + Wait> Drop
             in_a_row: _,
             failures: _,
         } = self;
-        match way {
-            Way::Port(port) => port.end(),
-            Way::Connection(connection) => {
-                let mut connection = connection;
-                connection.end();
-            }
-        }
+        way.end();
     }
 }
 
-impl<'a, R: Net<Listener = TcpListener, Stream = TcpStream> + Clock + Wait> Source for Link<'a, R> {
+/// Whether the limit leaves out what came next, which the buffer begins with.
+fn is_left_out<R: Wait + Clock>(
+    limit: &mut Option<CountLimit<'_, R>>,
+    next: Next,
+    buffer: &[u8],
+) -> bool
+    requires { (n : ℕ) → next ≡ Next.Datagram n → n ≤ length buffer.now }
+    ensures same { most_of limit.new ≡ most_of limit.old }
+    ensures left { result ≡ true → IsLeftOut (most_of limit.old) (heard_by next buffer.now) }
+    ensures stays { result ≡ false → IsLeftOut (most_of limit.old) (heard_by next buffer.now) → ⊥ }
+{
+    let Some(limit) = limit else {
+        return false;
+    };
+    match next {
+        Next::Datagram(len) => limit.leaves_out(&buffer[..len]),
+        _ => false,
+    }
+}
+
+/// It gave what came by its way, once each and in order, without the configurations that its limit leaves out.
+impl<
+    'a,
+    R: Net<Listener = TcpListener, Stream = TcpStream> + Clock + Wait,
+    S: Receive + Drop,
+> Source for Link<'a, R, S> {
     ghost use Rattle.std.specs.Prelude.{◌-◌};
+    ghost use Rattle.pdc_network.specs.Linked.{IsHeardBy};
+    ghost use Rattle.pdc_network.specs.Passing.{HasPassed};
     ghost use Rattle.pdc_network.specs.declared.link.TheConstants.{MOST_IN_A_ROW};
+
+    ghost told = { λ s heard. HasPassed (IsHeardBy S.received s.way) (most_of s.limit) heard };
 
     ghost failures_of = { λ s. s.failures };
 
@@ -95,15 +122,10 @@ impl<'a, R: Net<Listener = TcpListener, Stream = TcpStream> + Clock + Wait> Sour
             self.in_a_row = 0;
             return Next::Idle;
         }
-        let next = match &mut self.way {
-            Way::Port(port) => port.next(buffer),
-            Way::Connection(connection) => connection.next(buffer),
-        };
-        if let (Next::Datagram(len), Some(limit)) = (next, &mut self.limit) {
-            if limit.leaves_out(&buffer[..len]) {
-                self.in_a_row = 0;
-                return Next::Idle;
-            }
+        let next = self.way.next(buffer);
+        if is_left_out(&mut self.limit, next, buffer) {
+            self.in_a_row = 0;
+            return Next::Idle;
         }
         match next {
             Next::Datagram(_) => self.in_a_row += 1,
@@ -115,10 +137,7 @@ impl<'a, R: Net<Listener = TcpListener, Stream = TcpStream> + Clock + Wait> Sour
 
     fn answered(&mut self, answer: Option<Numbered<Outcome>>) {
         let outcome = answer.map(|numbered| numbered.answer);
-        match &mut self.way {
-            Way::Port(port) => port.answered(outcome),
-            Way::Connection(connection) => connection.answered(outcome),
-        }
+        self.way.answered(outcome);
     }
 
     fn failures(&self) -> u64 {

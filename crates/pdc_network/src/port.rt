@@ -1,23 +1,25 @@
 //! Frames at a UDP port.
-ghost use Rattle.std.specs.Prelude.{◌≡◌, ◌≤◌, ◌<◌, ℕ, length};
+ghost use Rattle.std.specs.Prelude.{◌≡◌, ◌≤◌, ◌<◌, ◌++◌, ◌∷◌, ℕ, List, [], length};
+ghost use Rattle.pdc_ports.specs.Heard.{Heard, heard_by};
 
 use crate::inquiry::{Inquiry, PATIENCE};
+use crate::receive::Receive;
 use crate::udp_source::UdpSource;
 use pdc_frame::{Command, StreamId};
 use pdc_journal::{Moment, Tally};
 use pdc_ports::{Next, Outcome, Source};
 use pdc_session::command_frame;
-use std::net::SocketAddr;
+use std::net::{SocketAddr, UdpSocket};
 use std::rt::Clock;
 
 /// The frames that come to a UDP port. Where its sender is to be asked, it is told by commands from this port to send its configuration
 /// and its data: at the begin, and again after each five seconds in which no data came, or none was taken for want of a configuration; and where
 /// STAT says that the configuration changes, or data is refused by its length for a second.
 #[derive(Drop)]
-pub struct Port<'a, R: Clock> {
+pub struct Port<'a, R: Clock, S: Receive + Drop = UdpSocket> {
     rt: &'a R,
     tally: &'a Tally,
-    source: UdpSource,
+    source: UdpSource<S>,
     id: StreamId,
     /// Where the commands go; where there is none, it is not asked for.
     commands: Option<SocketAddr>,
@@ -26,15 +28,17 @@ pub struct Port<'a, R: Clock> {
     inquiry: Inquiry,
 }
 
-impl<'a, R: Clock> Port<'a, R> {
+impl<'a, R: Clock, S: Receive + Drop> Port<'a, R, S> {
+    ghost use Rattle.pdc_network.specs.Linked.{IsHeardAt};
+
     /// The frames of the stream `id` at this port, with what counts for it, and where its sender takes commands, if it is asked.
     pub fn new(
         rt: &'a R,
         tally: &'a Tally,
-        source: UdpSource,
+        source: UdpSource<S>,
         id: StreamId,
         commands: Option<SocketAddr>,
-    ) -> Port<'a, R> {
+    ) -> Port<'a, R, S> {
         Port {
             rt,
             tally,
@@ -52,7 +56,9 @@ impl<'a, R: Clock> Port<'a, R> {
     }
 
     /// Tells the sender to send its configuration, and its data.
-    fn ask(&mut self, to: SocketAddr) {
+    fn ask(&mut self, to: SocketAddr)
+        ensures { self.new.source ≡ self.old.source }
+    {
         let (config, data) = (
             command_frame(self.id, Command::SendCfg2),
             command_frame(self.id, Command::DataOn),
@@ -67,6 +73,7 @@ impl<'a, R: Clock> Port<'a, R> {
     pub fn next(&mut self, buffer: &mut [u8]) -> Next
         ensures kept { length buffer.new ≡ length buffer.old }
         ensures datagram { (n : ℕ) → result ≡ Next.Datagram n → n ≤ length buffer.new }
+        ensures tells { (heard : List Heard) → IsHeardAt S.received self.old heard → IsHeardAt S.received self.new (heard ++ heard_by result buffer.new ∷ []) }
     {
         let next = self.source.next(buffer);
         if let Some(to) = self.commands {
@@ -90,7 +97,9 @@ impl<'a, R: Clock> Port<'a, R> {
     }
 
     /// Takes how its last datagram was answered.
-    pub fn answered(&mut self, outcome: Option<Outcome>) {
+    pub fn answered(&mut self, outcome: Option<Outcome>)
+        ensures tells { (heard : List Heard) → IsHeardAt S.received self.old heard → IsHeardAt S.received self.new heard }
+    {
         let Some(to) = self.commands else {
             return;
         };

@@ -1,10 +1,11 @@
 //! Datagrams from a UDP port.
-ghost use Rattle.std.specs.Prelude.{◌≡◌, ◌≤◌, IfOk, IfSome, length};
+ghost use Rattle.std.specs.Prelude.{◌≡◌, ◌≤◌, ◌++◌, ◌∷◌, List, None, [], length};
+ghost use Rattle.pdc_network.specs.Received.{host_bits, is_read};
 
-use crate::receive_buffer::{receive_buffer, set_receive_buffer};
+use crate::receive::{Receive, is_idle};
+use crate::receive_buffer::set_receive_buffer;
 use pdc_ports::{Next, Source};
 use std::io;
-use std::io::ErrorKind;
 use std::net::{IpAddr, Net, SocketAddr, UdpSocket};
 use std::time::Duration;
 
@@ -17,11 +18,14 @@ const MOST_IN_A_ROW: u32 = 64;
 /// The address of the loopback.
 const LOOPBACK: [u8; 4] = [127, 0, 0, 1];
 
+/// The first bits of an IPv6 address that stands for an IPv4 address: ::ffff:0:0.
+const MAPPED: u128 = 0xFFFF_0000_0000;
+
 /// The datagrams that come to a UDP port. It is idle where none came for 20 ms, and once after each 64 that came one
 /// behind the other, and at each of a stranger: so whoever reads it sees that it is to end, however fast they come.
 #[derive(Drop)]
-pub struct UdpSource {
-    socket: UdpSocket,
+pub struct UdpSource<S: Receive + Drop = UdpSocket> {
+    socket: S,
     /// How many datagrams it gave since it was idle last.
     in_a_row: u32,
     failures: u64,
@@ -30,13 +34,13 @@ pub struct UdpSource {
     strangers: u64,
 }
 
-impl UdpSource {
+impl UdpSource<UdpSocket> {
     /// Opens the port on 127.0.0.1.
     ///
     /// # Errors
     ///
     /// Where the port cannot be opened, as one that is taken.
-    pub fn open<R: Net>(net: &R, port: u16) -> io::Result<UdpSource> {
+    pub fn open<R: Net>(net: &R, port: u16) -> io::Result<UdpSource<UdpSocket>> {
         UdpSource::open_at(net, IpAddr::from(LOOPBACK), port)
     }
 
@@ -45,16 +49,34 @@ impl UdpSource {
     /// # Errors
     ///
     /// Where the port cannot be opened, as one that is taken, or where the machine has no such address.
-    pub fn open_at<R: Net>(net: &R, address: IpAddr, port: u16) -> io::Result<UdpSource> {
+    pub fn open_at<R: Net>(
+        net: &R,
+        address: IpAddr,
+        port: u16,
+    ) -> io::Result<UdpSource<UdpSocket>> {
         let socket = UdpSocket::bind(net, (address, port))?;
         socket.set_read_timeout(Some(Duration::from_millis(IDLE_AFTER)))?;
-        Ok(UdpSource {
+        Ok(UdpSource::new(socket))
+    }
+
+    /// Asks the system for a buffer of so many bytes, in which datagrams wait that were not read yet. It may grant less, or more.
+    pub fn ask_for_buffer(&self, bytes: u32) {
+        set_receive_buffer(&self.socket, bytes);
+    }
+}
+
+impl<S: Receive + Drop> UdpSource<S> {
+    /// The datagrams of each sender that come to this port.
+    pub fn new(socket: S) -> UdpSource<S>
+        ensures { (result.socket ≡ socket) × (result.from ≡ None) }
+    {
+        UdpSource {
             socket,
             in_a_row: 0,
             failures: 0,
             from: None,
             strangers: 0,
-        })
+        }
     }
 
     /// From now on only the datagrams of this address are given, where there is one. The others are counted as strangers, and nothing else.
@@ -69,49 +91,42 @@ impl UdpSource {
 
     /// Sends the bytes from the port as one datagram, and answers whether they went out.
     pub fn send(&self, bytes: &[u8], to: SocketAddr) -> bool {
-        matches!(self.socket.send_to(bytes, to), Ok(len) if len == bytes.len())
-    }
-
-    /// Receives one datagram; none where it was a stranger's.
-    fn receive(&mut self, buffer: &mut [u8]) -> io::Result<Option<usize>>
-        ensures kept { length buffer.new ≡ length buffer.old }
-        ensures datagram { IfOk result (λ len. IfSome len (λ n. n ≤ length buffer.new)) }
-        ensures failures { self.new.failures ≡ self.old.failures }
-        ensures row { self.new.in_a_row ≡ self.old.in_a_row }
-    {
-        let Some(from) = self.from else {
-            return Ok(Some(self.socket.recv(buffer)?));
-        };
-        let (len, sender) = self.socket.recv_from(buffer)?;
-        if sender.ip().to_canonical() == from.to_canonical() {
-            return Ok(Some(len));
-        }
-        self.strangers = self.strangers.saturating_add(1);
-        Ok(None)
-    }
-
-    /// Asks the system for a buffer of so many bytes, in which datagrams wait that were not read yet. It may grant less, or more.
-    pub fn ask_for_buffer(&self, bytes: u32) {
-        set_receive_buffer(&self.socket, bytes);
+        self.socket.reply(bytes, to)
     }
 
     /// How many bytes the buffer has, where the system tells it.
     pub fn buffer(&self) -> Option<u32> {
-        receive_buffer(&self.socket)
+        self.socket.buffer()
     }
 }
 
-/// Whether the wait for a datagram ended, and the device did not fail.
-fn is_idle(kind: ErrorKind) -> bool {
-    matches!(
-        kind,
-        ErrorKind::WouldBlock | ErrorKind::TimedOut | ErrorKind::Interrupted
-    )
+/// The bits of an address; those of an IPv4 address are the ones of the IPv6 address that stands for it.
+fn host_bits(ip: IpAddr) -> u128
+    ensures { result ≡ host_bits ip }
+{
+    match ip {
+        IpAddr::V4(ip) => MAPPED + u128::from(ip.to_bits()),
+        IpAddr::V6(ip) => ip.to_bits(),
+    }
 }
 
-impl Source for UdpSource {
+/// Whether the datagrams of this sender are read, where those of one address are read alone.
+fn is_read(from: Option<IpAddr>, sender: SocketAddr) -> bool
+    ensures { result ≡ is_read from sender }
+{
+    match from {
+        Some(from) => host_bits(sender.ip()) == host_bits(from),
+        None => true,
+    }
+}
+
+/// Each datagram that its socket received and that is no stranger's it gave, once, in order; and nothing else but the socket's failures.
+impl<S: Receive + Drop> Source for UdpSource<S> {
     ghost use Rattle.std.specs.Prelude.{◌-◌};
+    ghost use Rattle.pdc_network.specs.Received.{HasGiven};
     ghost use Rattle.pdc_network.specs.declared.udp_source.TheConstants.{MOST_IN_A_ROW};
+
+    ghost told = { λ s heard. HasGiven S.received s.from s.socket heard };
 
     ghost failures_of = { λ s. s.failures };
 
@@ -122,12 +137,13 @@ impl Source for UdpSource {
             self.in_a_row = 0;
             return Next::Idle;
         }
-        match self.receive(buffer) {
-            Ok(Some(len)) => {
-                self.in_a_row += 1;
-                Next::Datagram(len)
-            }
-            Ok(None) => {
+        match self.socket.receive_datagram(buffer) {
+            Ok((len, sender)) => {
+                if is_read(self.from, sender) {
+                    self.in_a_row += 1;
+                    return Next::Datagram(len);
+                }
+                self.strangers = self.strangers.saturating_add(1);
                 self.in_a_row = 0;
                 Next::Idle
             }

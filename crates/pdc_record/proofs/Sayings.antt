@@ -8,7 +8,7 @@ use Rattle.pdc_life.specs.Causes.{number_of}
 use Rattle.pdc_life.specs.declared.outcome.TheConstants.{CAUSES}
 use Rattle.pdc_life.proofs.Causes.{told_apart, within}
 use Rattle.pdc_record.specs.Answers.{answer_number}
-use Rattle.pdc_record.specs.Told.{Tick, Told, Began, Arrived, Unanswered, Ticked, FoundNone, Popped, Laid, Missing}
+use Rattle.pdc_record.specs.Told.{Tick, Told, Began, Arrived, Unanswered, Ticked, FoundNone, Popped, Laid, Missing, NoFrame}
 use Rattle.pdc_record.specs.Bodies.{AreWords, FitsTick, FitsWidths, IsTold, body_of, change_number, flags_of, kind_number, outcome_of, rest_of, words_of}
 use Rattle.pdc_record.proofs.Numbers.{same_word, same_long, same_wide, same_byte, same_words, length-words_of}
 use Rattle.pdc_record.proofs.Beginnings.{same_start, length-began}
@@ -91,6 +91,11 @@ same_told FoundNone FoundNone h k n e = refl
 same_told (Popped i f) (Popped j g) h k n e = same_popped i j f g h k e
 same_told (Laid d) (Laid f) h k n e = ap Laid e
 same_told (Missing a) (Missing b) h k n e = ap Missing (same_wide a b [] [] h k e).0
+same_told (NoFrame a o m d) (NoFrame b p l f) h k n e =
+    let stream = same_word a b (answer_number o ∷ (to_be_bytes w32 m ++ d)) (answer_number p ∷ (to_be_bytes w32 l ++ f)) h.0 k.0 e in
+    let answer = same_byte (answer_number o) (answer_number p) (to_be_bytes w32 m ++ d) (to_be_bytes w32 l ++ f) stream.1 in
+    let len = same_long m l d f h.1 k.1 answer.1 in
+    ap (λ (n : ℕ). NoFrame n o m d) stream.0 ∙ ap (λ (x : Outcome). NoFrame b x m d) (answer_known o p answer.0) ∙ ap (λ (n : ℕ). NoFrame b p n d) len.0 ∙ ap (λ (xs : List ℕ). NoFrame b p l xs) len.1
 same_told t u h k n e = absurd (omega (arith, n))
 
 pub one_told : (kind : ℕ) (body : List ℕ) (t u : Told) → IsTold kind body t → IsTold kind body u → t ≡ u
@@ -113,6 +118,7 @@ length-body (Popped i None) h = omega arith
 length-body (Popped i (Some x)) h = omega arith
 length-body (Laid d) h = omega arith
 length-body (Missing a) h = omega arith
+length-body (NoFrame a o m d) h = omega arith
 
 -- a body of another length is that of no tick
 no_ticked : (body : List ℕ) → ((t : Tick) → FitsTick t → body ≡ body_of (Ticked t) → ⊥) → (t : Told) → IsTold 3 body t → ⊥

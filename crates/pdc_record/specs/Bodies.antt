@@ -7,7 +7,7 @@ use Rattle.pdc_record.specs.declared.begun.Role.TheVariants.{Node, Merger}
 use Rattle.pdc_life.specs.pdc_row.declared.limits.TheConstants.{MAX_PMUS}
 use Rattle.pdc_record.specs.declared.limits.TheConstants.{VERSION}
 use Rattle.pdc_record.specs.Answers.{answer_number}
-use Rattle.pdc_record.specs.Told.{Start, Tick, Told, Began, Arrived, Unanswered, Ticked, FoundNone, Popped, Laid, Missing}
+use Rattle.pdc_record.specs.Told.{Start, Tick, Told, Began, Arrived, Unanswered, Ticked, FoundNone, Popped, Laid, Missing, NoFrame}
 
 -- KIND
 abbrev pub kind_number : Told → ℕ
@@ -19,6 +19,7 @@ kind_number FoundNone = 4
 kind_number (Popped instant frame) = 5
 kind_number (Laid frame) = 6
 kind_number (Missing until) = 7
+kind_number (NoFrame stream outcome len front) = 8
 
 -- ROLE
 abbrev pub role_number : Role → ℕ
@@ -68,6 +69,7 @@ fixed_of FoundNone = []
 fixed_of (Popped instant frame) = to_be_bytes w64 instant ++ (flag_of frame ∷ [])
 fixed_of (Laid frame) = []
 fixed_of (Missing until) = to_be_bytes w64 until
+fixed_of (NoFrame stream outcome len front) = to_be_bytes w16 stream ++ (answer_number outcome ∷ to_be_bytes w32 len)
 
 -- the datagram, the frame or the settings text
 abbrev pub rest_of : Told → List ℕ
@@ -80,6 +82,7 @@ rest_of (Popped instant None) = []
 rest_of (Popped instant (Some frame)) = frame
 rest_of (Laid frame) = frame
 rest_of (Missing until) = []
+rest_of (NoFrame stream outcome len front) = front
 
 abbrev pub body_of : Told → List ℕ
 body_of told = fixed_of told ++ rest_of told
@@ -114,6 +117,7 @@ FitsWidths FoundNone = Unit {0}
 FitsWidths (Popped instant frame) = instant < 2 ^ 64
 FitsWidths (Laid frame) = Unit {0}
 FitsWidths (Missing until) = until < 2 ^ 64
+FitsWidths (NoFrame stream outcome len front) = (stream < 2 ^ 16) × (len < 2 ^ 32)
 
 -- a body of this kind says this
 pub record IsTold (kind : ℕ) (body : List ℕ) (told : Told) : Type 0 where

@@ -37,6 +37,7 @@ pub data Told : Type 0 where
   Popped : (instant : ℕ) (frame : Option (List ℕ)) → Told
   Laid : (frame : List ℕ) → Told
   Missing : (until : ℕ) → Told
+  NoFrame : (stream : ℕ) (outcome : Outcome) (len : ℕ) (front : List ℕ) → Told
 
 -- an entry's fields
 pub record Fields : Type 0 where
@@ -67,6 +68,7 @@ told_of (what.Popped instant None) = Popped instant None
 told_of (what.Popped instant (Some frame)) = Popped instant (Some frame.now)
 told_of (what.Laid frame) = Laid frame.now
 told_of (what.Missing until) = Missing until
+told_of (what.NoFrame stream outcome len front) = NoFrame stream outcome len front.now
 
 abbrev pub fields_of : Entry → Fields
 fields_of entry = record { step = entry.step; time = entry.time; told = told_of entry.what }

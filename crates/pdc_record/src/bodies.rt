@@ -5,7 +5,9 @@ ghost use Rattle.pdc_record.specs.Bodies.{IsTold, change_number, flags_of, kind_
 
 use crate::answer::answer_of;
 use crate::entry::What;
-use crate::limits::{ARRIVED_LEN, MAX_REST, MISSING_LEN, POPPED_LEN, TICKED_LEN, UNANSWERED_LEN};
+use crate::limits::{
+    ARRIVED_LEN, MAX_REST, MISSING_LEN, NO_FRAME_LEN, POPPED_LEN, TICKED_LEN, UNANSWERED_LEN,
+};
 use crate::starts::read_begun;
 use crate::words::{split_byte, split_counts, split_long, split_wide, split_word};
 
@@ -22,6 +24,7 @@ pub(crate) fn kind_number(what: &What<'_>) -> u8
         What::Popped { frame: None, .. } | What::Popped { frame: Some(_), .. } => 5,
         What::Laid { .. } => 6,
         What::Missing { .. } => 7,
+        What::NoFrame { .. } => 8,
     }
 }
 
@@ -42,6 +45,7 @@ pub(crate) fn rest_of<'a>(what: &What<'a>) -> &'a [u8]
         } => frame,
         What::Laid { frame } => frame,
         What::Missing { .. } => &[],
+        What::NoFrame { front, .. } => front,
     }
 }
 
@@ -143,6 +147,24 @@ fn read_missing(body: &[u8]) -> Option<What<'_>>
     Some(What::Missing { until })
 }
 
+fn read_no_frame(body: &[u8]) -> Option<What<'_>>
+    ensures { MatchOption result ((told : Told) → IsTold 8 body.now told → ⊥) (λ what. IsTold 8 body.now (told_of what)) }
+{
+    if body.len() < NO_FRAME_LEN {
+        return None;
+    }
+    let (stream, body) = split_word(body);
+    let (answer, body) = split_byte(body);
+    let (len, front) = split_long(body);
+    let outcome = answer_of(answer)?;
+    Some(What::NoFrame {
+        stream,
+        outcome,
+        len,
+        front,
+    })
+}
+
 /// What the body of an entry of this kind says, however long its last part is.
 fn read_body(kind: u8, body: &[u8]) -> Option<What<'_>>
     ensures { MatchOption result ((told : Told) → IsTold kind body.now told → ⊥) (λ what. IsTold kind body.now (told_of what)) }
@@ -159,6 +181,7 @@ fn read_body(kind: u8, body: &[u8]) -> Option<What<'_>>
         5 => read_popped(body),
         6 => Some(What::Laid { frame: body }),
         7 => read_missing(body),
+        8 => read_no_frame(body),
         _ => None,
     }
 }

@@ -62,6 +62,17 @@ pub enum What<'a> {
         /// The bytes of the configuration frame.
         frame: &'a [u8],
     },
+    /// A step: a datagram that is no frame arrived for a stream, and was refused. Of its bytes the first ones are here.
+    NoFrame {
+        /// The number of the stream, from 0.
+        stream: u16,
+        /// The answer.
+        outcome: Outcome,
+        /// How many bytes it has.
+        len: u32,
+        /// Its first bytes.
+        front: &'a [u8],
+    },
     /// The steps from this number on, up to the one before `until`, are not in the record.
     Missing {
         /// The number of the first step that is there again.

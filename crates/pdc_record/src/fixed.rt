@@ -9,7 +9,8 @@ use crate::answer::answer_number;
 use crate::begun::Begun;
 use crate::entry::What;
 use crate::limits::{
-    ARRIVED_LEN, BEGUN_LEN, MISSING_LEN, NOW_LEN, POPPED_LEN, TICKED_BACK, UNANSWERED_LEN,
+    ARRIVED_LEN, BEGUN_LEN, MISSING_LEN, NO_FRAME_LEN, NOW_LEN, POPPED_LEN, TICKED_BACK,
+    UNANSWERED_LEN,
 };
 use crate::starts::{back_bytes, begun_len, front_bytes};
 use crate::words::{count_bytes, counts_len};
@@ -31,6 +32,7 @@ pub(crate) fn fixed_len(what: &What<'_>) -> usize
         What::Popped { .. } => POPPED_LEN,
         What::Laid { .. } => 0,
         What::Missing { .. } => MISSING_LEN,
+        What::NoFrame { .. } => NO_FRAME_LEN,
     }
 }
 
@@ -40,6 +42,17 @@ fn arrived_bytes(stream: u16, outcome: Outcome) -> [u8; ARRIVED_LEN]
     let mut fixed = [0; ARRIVED_LEN];
     BigEndian::write_u16(&mut fixed, stream);
     fixed[2] = answer_number(outcome);
+    fixed
+}
+
+fn no_frame_bytes(stream: u16, outcome: Outcome, len: u32) -> [u8; NO_FRAME_LEN]
+    ensures value { result ≡ to_be_bytes w16 stream ++ (answer_number outcome ∷ to_be_bytes w32 len) }
+    ensures len { len < 2 ^ 32 }
+{
+    let mut fixed = [0; NO_FRAME_LEN];
+    BigEndian::write_u16(&mut fixed, stream);
+    fixed[2] = answer_number(outcome);
+    BigEndian::write_u32(&mut fixed[3..], len);
     fixed
 }
 
@@ -125,5 +138,11 @@ pub(crate) fn append_fixed<B: Buffer>(what: &What<'_>, out: &mut B)
         } => out.append_bytes(&popped_bytes(*instant, 1)),
         What::Laid { .. } => (),
         What::Missing { until } => out.append_bytes(&until.to_be_bytes()),
+        What::NoFrame {
+            stream,
+            outcome,
+            len,
+            ..
+        } => out.append_bytes(&no_frame_bytes(*stream, *outcome, *len)),
     }
 }

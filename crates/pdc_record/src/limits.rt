@@ -48,5 +48,8 @@ pub(crate) const TICKED_LEN: usize = 49;
 /// The fixed part of Popped: INSTANT and FLAG.
 pub(crate) const POPPED_LEN: usize = 9;
 
+/// The fixed part of NoFrame: STREAM, ANSWER and SIZE.
+pub(crate) const NO_FRAME_LEN: usize = 7;
+
 /// The fixed part of Missing: UNTIL.
 pub(crate) const MISSING_LEN: usize = 8;

@@ -77,10 +77,16 @@ fn status_at(halt: &Halt) -> u8 {
     }
 }
 
-/// What is told of so many steps and frames that were as recorded; before something that is wrong, where not to the end.
+/// What is told of so many steps and frames that were as recorded; before something that is wrong, where not to the end. Where datagrams were
+/// not kept whole, how many there were.
 fn alike_text(alloc: Global, player: &Player, is_to_the_end: bool) -> Result<String, AllocError> {
-    let (steps, frames) = (player.steps(), player.frames());
+    let (steps, frames, unkept) = (player.steps(), player.frames(), player.unkept());
     let before = if is_to_the_end { "" } else { " before it" };
+    if unkept > 0 {
+        return format!(in alloc;
+            "{steps} steps, {frames} frames{before}: as recorded; {unkept} datagrams that are no frames are taken as refused, since they were not kept whole"
+        );
+    }
     format!(in alloc; "{steps} steps, {frames} frames{before}: as recorded")
 }
 

@@ -1,0 +1,4 @@
+pub mod Kept
+pub mod Lives
+pub mod Lost
+pub mod Room

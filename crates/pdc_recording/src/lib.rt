@@ -2,20 +2,26 @@
 //!
 //! The first type to look at is [`Recording`], the queue into which receivers and aligner put entries. [`RecordedSource`] and
 //! [`RecordedTicker`] are put around a source and a ticker, and note what they hear; [`write_record`], in a thread of its own, brings the
-//! entries into the order of their numbers and writes them to a [`Series`] of files.
+//! entries into the order of their numbers and writes them to a [`Series`] of files. What it wrote is in [`Written`].
 //!
 //! To the layers above this crate promises that a recorded source and a recorded ticker keep the contracts of what they are put around.
-//! Whoever notes an entry waits for nothing but a short lock: where the queue is full, the record has a gap, and says so.
+//! Whoever notes an entry waits for nothing but a short lock: where the queue is full, the record has a gap, and says so. So it does where a
+//! file could not be written: a new one is tried until the record goes on.
 #![tactic(auto)]
 
+mod kept;
+mod lives;
+mod lost;
 mod ordering;
 mod recorded_source;
 mod recorded_ticker;
 mod recording;
+mod room;
 mod series;
 mod shelf;
 mod time;
 mod writing;
+mod written;
 
 pub use pdc_record::{Begun, Role};
 pub use recorded_source::RecordedSource;
@@ -25,3 +31,4 @@ pub use series::{Limits, Series};
 pub use shelf::Shelf;
 pub use time::nanoseconds_now;
 pub use writing::write_record;
+pub use written::Written;

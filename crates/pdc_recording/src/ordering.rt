@@ -1,6 +1,7 @@
 //! Entries in the order of their numbers.
 
 use crate::recording::{Place, Waiting};
+use crate::room::MOST_BYTES;
 use std::alloc::Global;
 use std::collections::BTreeMap;
 
@@ -24,6 +25,8 @@ pub struct Ordering {
     next: u64,
     /// By twice their number, and one more for what comes behind a step.
     held: BTreeMap<u64, Vec<u8>>,
+    /// How many bytes these have.
+    bytes: usize,
     /// Steps are held back for one that is not there yet.
     waits: bool,
 }
@@ -34,6 +37,7 @@ impl Ordering {
         Ordering {
             next: 0,
             held: BTreeMap::new(alloc),
+            bytes: 0,
             waits: false,
         }
     }
@@ -60,6 +64,7 @@ impl Ordering {
             return Some(bytes);
         }
         let key = step.saturating_mul(2).saturating_add(behind);
+        self.bytes = self.bytes.saturating_add(bytes.len());
         let _held = self.held.insert(key, bytes);
         None
     }
@@ -70,7 +75,7 @@ impl Ordering {
         let (first, _) = self.held.first_key_value()?;
         let step = *first / 2;
         if step > self.next {
-            if !gives_up && self.held.len() < MOST_HELD {
+            if !gives_up && self.held.len() < MOST_HELD && self.bytes <= MOST_BYTES {
                 self.waits = true;
                 return None;
             }
@@ -80,6 +85,7 @@ impl Ordering {
         }
         self.waits = false;
         let (key, bytes) = self.held.pop_first()?;
+        self.bytes = self.bytes.saturating_sub(bytes.len());
         if key % 2 == 0 {
             self.next = self.next.saturating_add(1);
         }

@@ -1,6 +1,7 @@
 //! A source whose datagrams are recorded.
 ghost use Rattle.std.specs.Prelude.{◌≡◌, ◌≤◌, ◌<◌, ℕ, length};
 
+use crate::kept::{FRONT, is_kept_whole};
 use crate::recording::Recording;
 use crate::time::nanoseconds_now;
 use pdc_ports::{Next, Numbered, Outcome, Source};
@@ -62,6 +63,23 @@ fn keep<R: Clock>(rt: &R, recorded: &mut Recorded<'_>, bytes: &[u8]) {
     recorded.is_kept = recorded.datagram.extend_from_slice(bytes).is_ok();
 }
 
+/// What the record says of a datagram that was answered so.
+fn what_of(stream: u16, outcome: Outcome, datagram: &[u8]) -> What<'_> {
+    if is_kept_whole(outcome, datagram.len()) {
+        return What::Arrived {
+            stream,
+            outcome,
+            datagram,
+        };
+    }
+    What::NoFrame {
+        stream,
+        outcome,
+        len: u32::try_from(datagram.len()).unwrap_or(u32::MAX),
+        front: datagram.get(..FRONT).unwrap_or(datagram),
+    }
+}
+
 /// Notes the datagram that was kept, with its answer; nothing where none was.
 fn note<R: Wait>(rt: &R, recorded: &Recorded<'_>, answer: Option<Numbered<Outcome>>) {
     if !recorded.is_kept {
@@ -73,11 +91,7 @@ fn note<R: Wait>(rt: &R, recorded: &Recorded<'_>, answer: Option<Numbered<Outcom
         Some(Numbered { step, answer }) => Entry {
             step,
             time: recorded.time,
-            what: What::Arrived {
-                stream,
-                outcome: answer,
-                datagram,
-            },
+            what: what_of(stream, answer, datagram),
         },
         None => Entry {
             step: 0,

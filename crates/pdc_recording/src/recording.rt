@@ -1,5 +1,7 @@
 //! Entries on their way to a record.
 
+use crate::room::has_room;
+use crate::written::Written;
 use circular_buffer::HeapCircularBuffer;
 use pdc_record::{Entry, What, entry_len, write_entry};
 use std::alloc::{AllocError, Global};
@@ -43,23 +45,29 @@ pub enum Turn {
 #[derive(Drop)]
 struct Queue {
     waiting: HeapCircularBuffer<Waiting>,
+    /// How many bytes they have.
+    bytes: usize,
     is_closed: bool,
 }
 
-/// The entries of a life that are to be written down. Whoever notes one waits for nothing but a short lock. At most 16384 wait; what does
-/// not fit is lacking in the record.
+/// The entries of a life that are to be written down. Whoever notes one waits for nothing but a short lock. At most 16384 wait, of 32 MiB at
+/// most; what does not fit is lacking in the record.
 #[derive(Drop)]
 pub struct Recording {
     alloc: Global,
+    /// What was written of it.
+    pub written: Written,
     queue: Mutex<Queue>,
 }
 
 /// Where an entry belongs.
 fn place_of(entry: &Entry<'_>) -> Place {
     match entry.what {
-        What::Arrived { .. } | What::Ticked { .. } | What::FoundNone | What::Popped { .. } => {
-            Place::Step(entry.step)
-        }
+        What::Arrived { .. }
+        | What::NoFrame { .. }
+        | What::Ticked { .. }
+        | What::FoundNone
+        | What::Popped { .. } => Place::Step(entry.step),
         What::Laid { .. } => Place::Behind(entry.step),
         What::Begun(_) | What::Unanswered { .. } | What::Missing { .. } => Place::Anywhere,
     }
@@ -83,10 +91,12 @@ impl Recording {
     pub fn new(alloc: Global) -> Result<Recording, AllocError> {
         let queue = Queue {
             waiting: HeapCircularBuffer::with_capacity(alloc, MOST_WAITING)?,
+            bytes: 0,
             is_closed: false,
         };
         Ok(Recording {
             alloc,
+            written: Written::new(),
             queue: Mutex::new(queue),
         })
     }
@@ -100,8 +110,11 @@ impl Recording {
             place: place_of(entry),
             bytes,
         };
+        let len = waiting.bytes.len();
         let mut queue = self.queue.lock(rt);
-        let _put = queue.waiting.try_push_back(waiting);
+        if has_room(queue.bytes, len) && queue.waiting.try_push_back(waiting).is_ok() {
+            queue.bytes = queue.bytes.saturating_add(len);
+        }
     }
 
     /// No more entries will be noted.
@@ -113,7 +126,10 @@ impl Recording {
     pub fn turn<R: Wait>(&self, rt: &R) -> Turn {
         let mut queue = self.queue.lock(rt);
         match queue.waiting.pop_front() {
-            Some(waiting) => Turn::Entry(waiting),
+            Some(waiting) => {
+                queue.bytes = queue.bytes.saturating_sub(waiting.bytes.len());
+                Turn::Entry(waiting)
+            }
             None if queue.is_closed => Turn::End,
             None => Turn::Nothing,
         }

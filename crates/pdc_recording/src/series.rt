@@ -1,7 +1,7 @@
 //! The files of a record.
 
 use crate::shelf::Shelf;
-use pdc_record::{Begun, Entry, What, entry_len, write_entry};
+use pdc_record::{Begun, Entry, What, write_entry};
 use std::alloc::{AllocError, Global};
 use std::fs::File;
 use std::io;
@@ -17,6 +17,8 @@ pub struct Limits {
     pub size: u64,
     /// How many files of a life stay; where there is none, all do.
     pub keep: Option<u32>,
+    /// Of how many lives the files stay, that which begins with them; where there is none, those of all.
+    pub lives: Option<u32>,
 }
 
 /// The files of the record of a life, `NAME.START.000001` and those that follow it, with the number of the life's start. Each begins with
@@ -30,13 +32,16 @@ pub struct Series<'a> {
     /// The number of the file that is written, from 1.
     number: u32,
     file: File,
-    /// How many bytes it has, with those that are gathered.
+    /// How many bytes it has, and how many with those that are gathered.
+    written: u64,
     len: u64,
     gathered: Vec<u8>,
+    /// The first step that is not in a file, nor among those that a file says are lacking.
+    next: u64,
 }
 
 /// The name of the file with this number.
-fn name_of(alloc: Global, name: &str, start: u32, number: u32) -> Result<String, AllocError> {
+pub fn name_of(alloc: Global, name: &str, start: u32, number: u32) -> Result<String, AllocError> {
     format!(in alloc; "{name}.{start:06}.{number:06}")
 }
 
@@ -57,16 +62,27 @@ fn open_numbered<R: Shelf>(
     rt.make(path.as_str())
 }
 
-/// Appends the entry with which a file begins whose first step has this number.
-fn append_head(begun: &Begun<'_>, step: u64, time: u64, out: &mut Vec<u8>) -> io::Result<()> {
-    let entry = Entry {
+/// Removes the file of this number, if it can be.
+fn remove_numbered<R: Shelf>(rt: &R, alloc: Global, name: &str, start: u32, number: u32) {
+    if let Ok(path) = name_of(alloc, name, start, number) {
+        let _removed = rt.remove(path.as_str());
+    }
+}
+
+/// Appends an entry.
+fn append_entry(entry: &Entry<'_>, out: &mut Vec<u8>) -> io::Result<()> {
+    match write_entry(entry, out) {
+        Ok(()) => Ok(()),
+        Err(_) => Err(no_memory()),
+    }
+}
+
+/// The entry with which a file begins whose first step has this number.
+fn head_of<'a>(begun: &Begun<'a>, step: u64, time: u64) -> Entry<'a> {
+    Entry {
         step,
         time,
         what: What::Begun(*begun),
-    };
-    match write_entry(&entry, out) {
-        Ok(()) => Ok(()),
-        Err(_) => Err(no_memory()),
     }
 }
 
@@ -75,12 +91,30 @@ fn count_of(bytes: &[u8]) -> u64 {
     u64::try_from(bytes.len()).unwrap_or(u64::MAX)
 }
 
+/// Makes the first file, with these bytes.
+fn make_first<R: Shelf>(
+    rt: &R,
+    alloc: Global,
+    name: &str,
+    start: u32,
+    head: &[u8],
+) -> io::Result<File> {
+    let mut file = open_numbered(rt, alloc, name, start, 1)?;
+    match file.write_all(head) {
+        Ok(()) => Ok(file),
+        Err(error) => {
+            remove_numbered(rt, alloc, name, start, 1);
+            Err(error)
+        }
+    }
+}
+
 impl<'a> Series<'a> {
     /// The first file, which is new, with what the life began with, at this time.
     ///
     /// # Errors
     ///
-    /// The file is there already, or cannot be made or written, or there is no memory.
+    /// The file is there already, or cannot be made or written, or there is no memory. Then there is no new file.
     pub fn open<R: Shelf>(
         rt: &R,
         alloc: Global,
@@ -89,21 +123,23 @@ impl<'a> Series<'a> {
         begun: Begun<'a>,
         time: u64,
     ) -> io::Result<Series<'a>> {
-        let file = open_numbered(rt, alloc, name, begun.start, 1)?;
-        let mut gathered = Vec::new(alloc);
-        append_head(&begun, 0, time, &mut gathered)?;
-        let mut series = Series {
+        let mut head = Vec::new(alloc);
+        append_entry(&head_of(&begun, 0, time), &mut head)?;
+        let file = make_first(rt, alloc, name, begun.start, head.as_slice())?;
+        let written = count_of(head.as_slice());
+        head.clear();
+        Ok(Series {
             alloc,
             name,
             limits,
             begun,
             number: 1,
             file,
-            len: count_of(gathered.as_slice()),
-            gathered,
-        };
-        series.flush()?;
-        Ok(series)
+            written,
+            len: written,
+            gathered: head,
+            next: 0,
+        })
     }
 
     /// The name of the file that is written.
@@ -111,34 +147,60 @@ impl<'a> Series<'a> {
         name_of(self.alloc, self.name, self.begun.start, self.number)
     }
 
-    /// Writes what is gathered.
-    pub fn flush(&mut self) -> io::Result<()> {
-        let written = self.file.write_all(self.gathered.as_slice());
+    /// What the names of the files begin with.
+    pub fn name(&self) -> &'a str {
+        self.name
+    }
+
+    /// What the life began with.
+    pub fn begun(&self) -> &Begun<'a> {
+        &self.begun
+    }
+
+    /// How large the files grow, and how many stay.
+    pub fn limits(&self) -> Limits {
+        self.limits
+    }
+
+    /// Writes what is gathered: all below the step with this number. Answers how many bytes that were.
+    ///
+    /// # Errors
+    ///
+    /// The file cannot be written.
+    pub fn flush(&mut self, next: u64) -> io::Result<u64> {
+        self.file.write_all(self.gathered.as_slice())?;
+        let more = count_of(self.gathered.as_slice());
         self.gathered.clear();
-        written
+        self.written = self.written.saturating_add(more);
+        self.next = next;
+        Ok(more)
+    }
+
+    /// Removes the file that is not to stay beside the one with this number.
+    fn remove_old<R: Shelf>(&self, rt: &R) {
+        if let Some(keep) = self.limits.keep {
+            if self.number > keep {
+                let number = self.number - keep;
+                remove_numbered(rt, self.alloc, self.name, self.begun.start, number);
+            }
+        }
     }
 
     /// Begins the next file, and removes the one that is not to stay.
-    fn begin_next<R: Shelf>(&mut self, rt: &R, step: u64, time: u64) -> io::Result<()> {
-        self.flush()?;
+    fn begin_next<R: Shelf>(&mut self, rt: &R, step: u64, time: u64) -> io::Result<u64> {
+        let more = self.flush(step)?;
         let number = self.number.saturating_add(1);
         self.file = open_numbered(rt, self.alloc, self.name, self.begun.start, number)?;
         self.number = number;
-        append_head(&self.begun, step, time, &mut self.gathered)?;
+        self.written = 0;
+        append_entry(&head_of(&self.begun, step, time), &mut self.gathered)?;
         self.len = count_of(self.gathered.as_slice());
-        if let Some(keep) = self.limits.keep {
-            if number > keep {
-                let start = self.begun.start;
-                let old = name_of(self.alloc, self.name, start, number - keep).map_err(
-                    |_| no_memory(),
-                )?;
-                let _removed = rt.remove(old.as_str());
-            }
-        }
-        Ok(())
+        self.remove_old(rt);
+        Ok(more)
     }
 
-    /// Appends the bytes of an entry. Where the file is full, they begin the next one, whose first step has this number.
+    /// Appends the bytes of an entry behind all below the step with this number. Where the file is full, they begin the next one, whose first
+    /// step that is. Answers how many bytes were written meanwhile.
     ///
     /// # Errors
     ///
@@ -149,18 +211,62 @@ impl<'a> Series<'a> {
         bytes: &[u8],
         step: u64,
         time: u64,
-    ) -> io::Result<()> {
+    ) -> io::Result<u64> {
         let more = count_of(bytes);
-        if self.len.saturating_add(more) > self.limits.size {
-            self.begin_next(rt, step, time)?;
-        }
+        let written = if self.len.saturating_add(more) > self.limits.size {
+            self.begin_next(rt, step, time)?
+        } else if self.gathered.len() >= GATHERED {
+            self.flush(step)?
+        } else {
+            0
+        };
         if self.gathered.extend_from_slice(bytes).is_err() {
             return Err(no_memory());
         }
         self.len = self.len.saturating_add(more);
-        if self.gathered.len() >= GATHERED {
-            self.flush()?;
+        Ok(written)
+    }
+
+    /// Gives up the file that is written: what was not written whole is taken away from it, and a file of which nothing was is removed.
+    /// Answers the first step that the record lacks.
+    pub fn give_up<R: Shelf>(&mut self, rt: &R) -> u64 {
+        self.gathered.clear();
+        if self.written == 0 {
+            remove_numbered(rt, self.alloc, self.name, self.begun.start, self.number);
+            self.number = self.number.saturating_sub(1);
+        } else {
+            let _cut = self.file.set_len(self.written);
         }
-        Ok(())
+        self.next
+    }
+
+    /// Goes on in the next file, which says that the steps up to the one before `until` are lacking, if there is one. Answers how many bytes
+    /// were written.
+    ///
+    /// # Errors
+    ///
+    /// The file cannot be made or written, or there is no memory. Then there is no new file.
+    pub fn resume<R: Shelf>(&mut self, rt: &R, until: Option<u64>, time: u64) -> io::Result<u64> {
+        let (alloc, step) = (self.alloc, self.next);
+        let mut front = Vec::new(alloc);
+        append_entry(&head_of(&self.begun, step, time), &mut front)?;
+        if let Some(until) = until {
+            let what = What::Missing { until };
+            append_entry(&Entry { step, time, what }, &mut front)?;
+        }
+        let number = self.number.saturating_add(1);
+        let mut file = open_numbered(rt, alloc, self.name, self.begun.start, number)?;
+        if let Err(error) = file.write_all(front.as_slice()) {
+            remove_numbered(rt, alloc, self.name, self.begun.start, number);
+            return Err(error);
+        }
+        let more = count_of(front.as_slice());
+        self.file = file;
+        self.number = number;
+        self.written = more;
+        self.len = more;
+        self.next = until.unwrap_or(step);
+        self.remove_old(rt);
+        Ok(more)
     }
 }

@@ -15,6 +15,13 @@ pub enum Difference {
         /// The number of the stream, from 0.
         stream: u16,
     },
+    /// A datagram that was not kept whole was not refused as what is no frame.
+    NotKept {
+        /// The number of its stream, from 0.
+        stream: u16,
+        /// What was recorded.
+        recorded: Outcome,
+    },
     /// A datagram was answered otherwise.
     Answer {
         /// The number of its stream, from 0.
@@ -154,6 +161,11 @@ fn print_difference<W: Write>(
                 "step {step} differs: a datagram for stream {stream}, which the life does not have"
             )
         }
+        Difference::NotKept { stream, recorded } => writeln!(
+            writer,
+            "step {step} differs: a datagram for stream {stream} was not kept whole: recorded {}, and only what is no frame is kept so",
+            recorded.text()
+        ),
         Difference::Answer {
             stream,
             recorded,

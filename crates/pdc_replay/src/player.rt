@@ -30,6 +30,8 @@ pub struct Player {
     steps: u64,
     /// How many frames they published.
     frames: u64,
+    /// How many of their datagrams were not kept whole.
+    unkept: u64,
 }
 
 impl Life {
@@ -64,6 +66,13 @@ impl Life {
             Life::Merger(replay) => replay.frames(),
         }
     }
+
+    fn unkept(&self) -> u64 {
+        match self {
+            Life::Node(replay) => replay.unkept(),
+            Life::Merger(replay) => replay.unkept(),
+        }
+    }
 }
 
 impl Player {
@@ -74,6 +83,7 @@ impl Player {
             life: None,
             steps: 0,
             frames: 0,
+            unkept: 0,
         }
     }
 
@@ -93,6 +103,14 @@ impl Player {
         }
     }
 
+    /// How many datagrams were not kept whole: they are no frames, and their refusals are those that are recorded.
+    pub fn unkept(&self) -> u64 {
+        match &self.life {
+            Some(life) => self.unkept.saturating_add(life.unkept()),
+            None => self.unkept,
+        }
+    }
+
     /// The row that was popped last; of instant 0 where none was.
     pub fn last_row(&self) -> Option<SeenRow<'_>> {
         match &self.life {
@@ -104,11 +122,12 @@ impl Player {
 
     /// Another life begins.
     fn begin(&mut self, begun: &Begun<'_>) -> Result<(), Halt> {
-        let (steps, frames) = (self.steps(), self.frames());
+        let (steps, frames, unkept) = (self.steps(), self.frames(), self.unkept());
         let life = Life::begin(self.alloc, begun)?;
         self.life = Some(life);
         self.steps = steps;
         self.frames = frames;
+        self.unkept = unkept;
         Ok(())
     }
 

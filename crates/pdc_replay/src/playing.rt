@@ -22,6 +22,9 @@ pub enum NotPlayed {
     /// It does not begin with the beginning of a life, or it goes on with another one, or steps are not in it.
     #[error("it is not one whole life")]
     NotOneLife,
+    /// A datagram of it was not kept whole.
+    #[error("a datagram of it, which is no frame, was not kept whole")]
+    NotKept,
     /// It has more steps than [`MOST_STEPS`].
     #[error("it has more than {MOST_STEPS} steps")]
     TooLong,
@@ -156,6 +159,12 @@ fn beginning<'e, 'a>(entries: &'e [Entry<'a>]) -> Option<&'e Begun<'a>> {
 ///
 /// Why it is not played.
 pub fn play_plain(alloc: Global, entries: &[Entry<'_>]) -> Result<Result<u64, u64>, NotPlayed> {
+    if entries
+        .iter()
+        .any(|entry| matches!(entry.what, What::NoFrame { .. }))
+    {
+        return Err(NotPlayed::NotKept);
+    }
     let Some(begun) = beginning(entries) else {
         return Err(NotPlayed::NotOneLife);
     };

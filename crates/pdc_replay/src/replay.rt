@@ -1,17 +1,18 @@
 //! A life that is played again on a core.
-ghost use Rattle.std.specs.Prelude.{◌≡◌, ◌<◌, ◌∷◌, ℕ, IfOk, List, None, Some, option_map};
+ghost use Rattle.std.specs.Prelude.{◌≡◌, ◌<◌, ◌∷◌, ℕ, IfOk, List, None, OnOk, Some, option_map};
 ghost use Rattle.pdc_life.specs.Answer.{ToPop, ToTick, answered, pop_answer, tick_answer};
 ghost use Rattle.pdc_life.specs.Given.{Given};
 ghost use Rattle.pdc_life.specs.Life.{Entry as LifeEntry, changes};
 ghost use Rattle.pdc_align.specs.Align.{ticked_of};
 ghost use Rattle.pdc_core.specs.Core.{Hears};
+ghost use Rattle.pdc_replay.specs.Unkept.{IsNoFrame};
 
 use crate::begins::{Begins, Unbegun};
 use crate::halt::{Difference, Halt};
 use crate::seen::{Layout, Section, SeenRow, layout_of};
 use pdc_core::Ticked;
 use pdc_frame::SECONDS;
-use pdc_life::{MAX_PMUS, Outcome};
+use pdc_life::{MAX_PMUS, Outcome, Refusal};
 use pdc_record::{Begun, Entry, What};
 use pdc_row::{Output, append_row};
 use pdc_table::{DueRow, spare_row};
@@ -32,6 +33,8 @@ pub struct Replay<C: Begins> {
     next: u64,
     /// How many frames were published.
     frames: u64,
+    /// How many datagrams were not kept whole.
+    unkept: u64,
     /// The row that was popped last.
     row: DueRow,
     /// The frame of a row or of a layout.
@@ -71,6 +74,7 @@ impl<C: Begins> Replay<C> {
             start: begun.start,
             next: 0,
             frames: 0,
+            unkept: 0,
             row: spare_row(),
             wire: Vec::new(alloc),
             layouts: Vec::new(alloc),
@@ -85,6 +89,11 @@ impl<C: Begins> Replay<C> {
     /// How many frames were published.
     pub fn frames(&self) -> u64 {
         self.frames
+    }
+
+    /// How many datagrams were not kept whole: they are no frames, and their refusals are those that are recorded.
+    pub fn unkept(&self) -> u64 {
+        self.unkept
     }
 
     /// The row that was popped last, with the sections that it closed under.
@@ -156,6 +165,21 @@ impl<C: Begins> Replay<C> {
                 replayed,
             });
         }
+        Ok(())
+    }
+
+    /// A datagram that was not kept whole: what is no frame is refused as recorded, and leaves the core as it is.
+    fn pass(&mut self, stream: u16, recorded: Outcome) -> Result<(), Difference>
+        ensures as_recorded { OnOk result (IsNoFrame recorded) }
+        ensures same { self.new.core ≡ self.old.core }
+    {
+        if usize::from(stream) >= self.core.streams() {
+            return Err(Difference::NoStream { stream });
+        }
+        if !matches!(recorded, Outcome::Refused(Refusal::NoFrame(_))) {
+            return Err(Difference::NotKept { stream, recorded });
+        }
+        self.unkept = self.unkept.saturating_add(1);
         Ok(())
     }
 
@@ -255,6 +279,11 @@ impl<C: Begins> Replay<C> {
                     used_up: *used_up,
                 },
             ),
+            What::NoFrame {
+                stream,
+                outcome,
+                ..
+            } => self.pass(*stream, *outcome),
             What::FoundNone => self.pop(None),
             What::Popped { instant, .. } => self.pop(Some(*instant)),
             _ => Ok(()),

@@ -16,7 +16,7 @@ use Rattle.pdc_server.specs.declared.place.Seen.TheVariants.{Nothing, Layout, Un
 use Rattle.pdc_server.specs.declared.stamp.Stamp.{Stamp}
 
 -- what a place says of the last layout frame
-abbrev Knows : Seen → Option Stamp → Type 0
+abbrev pub Knows : Seen → Option Stamp → Type 0
 Knows Nothing last = last ≡ None
 Knows (Layout stamp) last = (last ≡ None) ⊎ (last ≡ Some stamp)
 Knows Unsure last = Unit {0}
@@ -46,13 +46,13 @@ data_fits None stamp (f ∷ fs) h = let rest = data_fits None stamp fs h in ((tt
 data_fits (Some s) stamp (f ∷ fs) (inl h) = absurd (none-some _ (sym h))
 data_fits (Some s) stamp (f ∷ fs) (inr h) = let rest = data_fits (Some s) stamp fs (inr h) in ((same_Some s stamp h, rest.0), rest.1)
 
-takes_known : (seen : Seen) (last : Option Stamp) (stamp : Stamp) → Knows seen last → Takes seen stamp → (last ≡ None) ⊎ (last ≡ Some stamp)
+pub takes_known : (seen : Seen) (last : Option Stamp) (stamp : Stamp) → Knows seen last → Takes seen stamp → (last ≡ None) ⊎ (last ≡ Some stamp)
 takes_known Nothing last stamp known takes = inl known
 takes_known (Layout s) last stamp known takes = subst (λ (x : Stamp). (last ≡ None) ⊎ (last ≡ Some x)) takes known
 takes_known Unsure last stamp known takes = absurd takes
 
 -- replies that may be layout frames fit, and what the consumer has then is known
-abbrev Later : Seen → Option Stamp → List ℕ → Option Stamp → Type 0
+abbrev pub Later : Seen → Option Stamp → List ℕ → Option Stamp → Type 0
 Later seen stamp replies last = Knows (seen_after seen (replied stamp replies)) last
 
 layouts_fit : (stamp : Stamp) (byte : ℕ) (bytes : List ℕ) (last : Option Stamp) (pieces : List Piece) → AreReplied (Some stamp) (byte ∷ bytes) pieces
@@ -63,7 +63,7 @@ layouts_fit stamp byte bytes last (piece ∷ pieces) are =
     let settled : last_of (Some stamp) pieces ≡ Some stamp = elim rest.1 as (λ _. last_of (Some stamp) pieces ≡ Some stamp) [ inl e ↦ e | inr e ↦ e ] in
     subst (λ (p : Piece). Fit last (p ∷ pieces) × ((last_of last (p ∷ pieces) ≡ last) ⊎ (last_of last (p ∷ pieces) ≡ Some stamp))) (sym are.0) ((tt, rest.0), inr settled)
 
-joined_known : (seen : Seen) (stamp : Stamp) (last now : Option Stamp) → Knows seen last → (now ≡ last) ⊎ (now ≡ Some stamp) → Knows (seen_after seen (Some stamp)) now
+pub joined_known : (seen : Seen) (stamp : Stamp) (last now : Option Stamp) → Knows seen last → (now ≡ last) ⊎ (now ≡ Some stamp) → Knows (seen_after seen (Some stamp)) now
 joined_known Nothing stamp last now known (inl same) = inl (same ∙ known)
 joined_known Nothing stamp last now known (inr is) = inr is
 joined_known (Layout before) stamp last now known how =

@@ -5,3 +5,5 @@ mod Givens
 mod Pushes
 mod Keeping
 mod Fitting
+mod Following
+mod Refusals

@@ -1,6 +1,6 @@
 -- What is kept stays data frames.
 use Rattle.std.proofs.Common.{◌≡◌, ◌∙◌, refl, sym, ap, ap₂, subst, ℕ, suc, zero, List, [], ◌∷◌, ◌++◌, drop, length, ◌-◌}
-use Rattle.std.specs.Prelude.{Result, Ok, Err, OnErr, OnOk, Bool, true, false}
+use Rattle.std.specs.Prelude.{Result, Ok, Err, IfOk, OnErr, OnOk, Bool, true, false}
 use Rattle.std.proofs.Math.Logic.{∥∥₁_elim, ∥∥₁_map, ∥∥₁_prop}
 use Rattle.pdc_session.specs.Recent.{Kept, RecentView, is_old, pushed}
 use Rattle.pdc_server.specs.Stream.{AreData, IsData, Stream}
@@ -48,3 +48,7 @@ where_err (Err e) f p = f p
 pub where_ok : {U E P Q : Type 0} (answer : Result U E) → (P → Q) → OnOk answer P → OnOk answer Q
 where_ok (Ok u) f p = f p
 where_ok (Err e) f p = tt
+
+pub if_both : {U E Q : Type 0} {P R : U → Type 0} (answer : Result U E) → ((u : U) → P u → Q → R u) → IfOk answer P → OnOk answer Q → IfOk answer R
+if_both (Ok u) f p q = f u p q
+if_both (Err e) f p q = tt

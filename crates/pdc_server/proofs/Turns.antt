@@ -1,11 +1,29 @@
 -- How a turn ends, from what its steps ensure.
-use Rattle.std.proofs.Common.{◌≡◌, ℕ, List, [], Option, take, refl, sym, subst, inl, inr}
+use Rattle.std.proofs.Common.{◌≡◌, ◌≤◌, ℕ, List, [], ◌∷◌, Option, length, take, refl, sym, subst, inl, inr, arith, length-take}
+use Rattle.pdc_frame.specs.Stream.{Held}
+use Rattle.pdc_session.specs.Session.{AreFew, HasAnswered}
+use Rattle.pdc_session.specs.declared.told.Told.{Told}
+use Rattle.pdc_session.specs.declared.serving.Serving.{Serving}
+use Rattle.pdc_server.specs.declared.limits.TheConstants.{MOST_HEARD, PIECE_LEN}
 use Rattle.std.specs.Prelude.{Result, Ok, Err, IfErr, IsErrAnd, OnErr, OnOk, Some, None, true}
 use Rattle.pdc_session.specs.Session.{SessionView}
 use Rattle.pdc_server.specs.Turn.{Dated, HasEnded, HasHeard, HasMade, HasWritten, IsMade, IsUnheard, IsUnwritten, Standing}
 use Rattle.pdc_server.specs.declared.ended.Ended.{Ended}
 use Rattle.pdc_server.specs.declared.stamp.Stamp.{Stamp}
 use Rattle.pdc_server.specs.declared.ended.Ended.TheVariants.{EndOfStream, Session, Device, NoMemory, Closed}
+
+few_frames : (frames : List (List ℕ)) (bytes pending : ℕ) → AreFew frames bytes pending → bytes ≤ PIECE_LEN → length frames ≤ MOST_HEARD
+few_frames [] bytes pending few le = omega arith
+few_frames (f ∷ fs) bytes pending few le = omega (arith, few)
+
+-- what ends in a piece of a turn are few frames
+pub few_heard : {id : ℕ} {serving : Serving} {piece : List ℕ} {held : Held} {told : Told} {out : List ℕ} {later : Held} {after : Told} {grown : List ℕ} (h : HasAnswered id serving piece held told out later after grown)
+    → length piece ≤ PIECE_LEN → length h.frames ≤ MOST_HEARD
+few_heard {piece = piece} h le = few_frames h.frames (length piece) _ h.hears.few le
+
+-- the first bytes of a piece of a turn
+pub few_bytes : (n m : ℕ) (bytes : List ℕ) → n ≤ m → m ≡ PIECE_LEN → length (take n bytes) ≤ PIECE_LEN
+few_bytes n m bytes le same = omega (arith, length-take n bytes)
 
 pub where_ok : {A E P Q : Type 0} (answer : Result A E) → (P → Q) → OnOk answer P → OnOk answer Q
 where_ok (Ok a) f p = f p

@@ -44,6 +44,21 @@ Fit last (piece ∷ pieces) = FitsBehind last piece.is_layout piece.stamp × Fit
 pub worked : (one other : Stamp) → Fit None (data_piece one ∷ layout_piece other ∷ data_piece other ∷ [])
 worked one other = (tt, (tt, (refl, tt)))
 
+-- Each data frame is of the layout of the frame before it, be that a layout frame or a data frame, where there is one. So the layout changes
+-- by a layout frame alone: that of a new layout is written before the first data frame under it.
+abbrev pub Follow : Option Stamp → List Piece → Type 0
+Follow last [] = Unit {0}
+Follow last (piece ∷ pieces) = FitsBehind last piece.is_layout piece.stamp × Follow (Some piece.stamp) pieces
+
+-- the layout of the last frame
+abbrev pub last_seen : Option Stamp → List Piece → Option Stamp
+last_seen last [] = last
+last_seen last (piece ∷ pieces) = last_seen (Some piece.stamp) pieces
+
+-- Worked: behind a data frame of one layout stand the layout frame of another and a data frame of that one.
+pub worked_change : (one other : Stamp) → Follow None (data_piece one ∷ data_piece one ∷ layout_piece other ∷ data_piece other ∷ [])
+worked_change one other = (tt, (refl, (tt, (refl, tt))))
+
 -- Replies that are made of the layout with a stamp may be layout frames of it; where there are none, no layout frame is among them.
 abbrev pub AreReplied : Option Stamp → (replies : List ℕ) → List Piece → Type 0
 AreReplied stamp replies [] = Unit {0}
@@ -85,3 +100,8 @@ joined_pieces (pieces ∷ written) = pieces ++ joined_pieces written
 abbrev pub DataFitsItsLayout : Type 0
 DataFitsItsLayout = (before : Standing) (standings : List Standing) (written : List (List Piece)) → before.place ≡ first_place → TurnsWrite before standings written
     → Fit None (joined_pieces written)
+
+-- Nor does a data frame of another layout come than that of the frame before it, where no layout frame stands between.
+abbrev pub LayoutsAreToldFirst : Type 0
+LayoutsAreToldFirst = (before : Standing) (standings : List Standing) (written : List (List Piece)) → before.place ≡ first_place → TurnsWrite before standings written
+    → Follow None (joined_pieces written)

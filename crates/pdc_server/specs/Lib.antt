@@ -5,5 +5,6 @@ pub mod Turn
 pub mod Given
 pub mod Laws
 pub mod Places
+pub mod Remembering
 pub mod Stamps
 pub mod Stream

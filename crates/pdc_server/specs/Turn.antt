@@ -1,5 +1,5 @@
 -- One turn with a consumer (this profile).
-use Rattle.std.specs.Prelude.{◌≡◌, ◌⊎◌, ℕ, ◌<◌, List, [], ◌∷◌, length, take, Option, Some, None, Bool, true, false}
+use Rattle.std.specs.Prelude.{◌≡◌, ◌⊎◌, ℕ, ◌<◌, ◌≤◌, List, [], ◌∷◌, length, take, Option, Some, None, Bool, true, false, not}
 use Rattle.std.specs.Io.KnownBytes.{Appends, Consumes, IsAtEnd, Keeps}
 use Rattle.pdc_cfg.specs.Config.{config_fields_of}
 use Rattle.pdc_session.specs.Served.{IsFed}
@@ -9,9 +9,11 @@ use Rattle.pdc_session.specs.declared.serving.Serving.{Serving}
 use Rattle.pdc_server.specs.Given.{IsGiven}
 use Rattle.pdc_server.specs.Stream.{IsLayoutWith, Stream}
 use Rattle.pdc_server.specs.Header.{header_text}
+use Rattle.pdc_server.specs.Remembering.{IsGivenOf, OfFound}
 use Rattle.pdc_server.specs.Places.{replied, seen_after}
 use Rattle.pdc_server.specs.declared.ended.Ended.{Ended}
 use Rattle.pdc_server.specs.declared.ended.Ended.TheVariants.{EndOfStream, Session, Device, NoMemory, Closed}
+use Rattle.pdc_server.specs.declared.limits.TheConstants.{MOST_HEARD, PIECE_LEN}
 use Rattle.pdc_server.specs.declared.place.Place.{Place}
 use Rattle.pdc_server.specs.declared.stamp.Stamp.{Stamp}
 
@@ -39,10 +41,10 @@ abbrev pub HasFailed : Dated → Stamp → (header piece : List ℕ) (session la
 HasFailed dated stamp header piece session later out grown fault =
     (serving : Serving) × IsServing dated stamp header serving × (later.ended ≡ Some fault) × IsFed serving piece session out later grown
 
--- Where no piece came nothing is appended, and the session stays.
+-- Where no piece came nothing is appended, and the session stays. Of one that came at most 16 frames are heard, as no more end in it.
 abbrev pub HasHeard : Dated → Option Stamp → (id : ℕ) (piece : List ℕ) (session later : SessionView) (out grown : List ℕ) → Type 0
 HasHeard dated None id piece session later out grown = (piece ≡ []) × (grown ≡ out) × (later ≡ session)
-HasHeard dated (Some stamp) id piece session later out grown = IsAnswered dated stamp (header_text id) piece session later out grown
+HasHeard dated (Some stamp) id piece session later out grown = (answered : IsAnswered dated stamp (header_text id) piece session later out grown) × (length answered.2.frames ≤ MOST_HEARD)
 
 -- Why a piece was not answered to its end: the session has ended; or there was no memory for the layout, and nothing was done.
 abbrev pub IsUnheard : Ended → Dated → (id : ℕ) (piece : List ℕ) (session later : SessionView) (out grown : List ℕ) → Type 0
@@ -73,6 +75,7 @@ pub record IsWhole (dated : Dated) (id : ℕ) (piece : List ℕ) (before later :
   pub heard : HasHeard dated stamp id piece before.session later.session [] replies
   pub off : later.session.told.on ≡ false → (later.place ≡ place_after before.place stamp replies) × (made ≡ replies)
   pub on : later.session.told.on ≡ true → IsGiven dated.stream (place_after before.place stamp replies) replies later.place made
+  pub given : later.session.told.on ≡ true → OfFound (λ memory. IsGivenOf memory (place_after before.place stamp replies) (not before.session.told.on) replies later.place made)
 
 -- The replies alone, since there was no memory for the frames.
 abbrev pub LacksFrames : Dated → (id : ℕ) (piece : List ℕ) (before later : Standing) (made : List ℕ) → Type 0
@@ -85,11 +88,13 @@ IsMade (Some NoMemory) dated id piece before later made = (later.place ≡ befor
     × (IsUnheard NoMemory dated id piece before.session later.session [] made ⊎ LacksFrames dated id piece before later made)
 IsMade (Some ended) dated id piece before later made = (later.place ≡ before.place) × IsUnheard ended dated id piece before.session later.session [] made
 
--- A piece was read, perhaps none; whether bytes came is noted, and this is what is to be written.
+-- A piece was read, perhaps none, of at most 256 bytes: what came behind it is left in the connection for the next turn. Whether bytes came is
+-- noted, and this is what is to be written.
 pub record HasMade {S : Type 0} (remaining : S → Option (List ℕ)) (ended : Option Ended) (dated : Dated) (id : ℕ) (before later : Standing) (line : S) : Type 0 where
   pub read : S
   pub piece : List ℕ
   pub made : List ℕ
+  pub few : length piece ≤ PIECE_LEN
   pub came : Consumes (remaining line) (remaining read) piece
   pub noted : later.heard ≡ has_bytes piece
   pub is_made : IsMade ended dated id piece before later made

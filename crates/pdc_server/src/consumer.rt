@@ -1,28 +1,31 @@
 //! One session, turn by turn.
-ghost use Rattle.std.specs.Prelude.{◌≡◌, ◌≤◌, ◌<◌, take, Some, None, false, OnOk, IfOk, IfErr, vec_len};
+ghost use Rattle.std.specs.Prelude.{◌≡◌, ◌⊎◌, ◌≤◌, ◌<◌, OnErr, IsErrOf, take, Some, None, false, OnOk, IfOk, IfErr, vec_len};
+ghost use Rattle.pdc_server.specs.declared.limits.TheConstants.{PIECE_LEN};
 ghost use Rattle.pdc_server.specs.Places.{first_place, replied, seen_after};
 ghost use Rattle.pdc_server.specs.Turn.{HasEnded, HasTurned, IsMade, dated_at, has_bytes, place_after};
 ghost use Rattle.pdc_session.specs.Served.{IsNew};
+ghost use Rattle.pdc_session.specs.pdc_memory.Asking.{SomeWasRefused, WasRefused};
+ghost use Rattle.pdc_frame.specs.declared.limits.TheConstants.{MAX_SIZE};
+ghost use Rattle.pdc_session.specs.declared.fault.SessionFault.TheVariants.{NoMemory as SessionNoMemory};
 
 use crate::ended::Ended;
 use crate::hearing::{Question, answer, append_data};
+use crate::limits::PIECE_LEN;
 use crate::naming::Naming;
 use crate::place::{Place, Seen, seen_after};
 use crate::recent::Recent;
 use crate::stamp::Stamp;
 use crate::traffic::{read_once, write_out};
 use pdc_frame::StreamId;
-use pdc_session::Session;
+use pdc_session::{Session, SessionFault, blank_piece};
 use std::alloc::{AllocError, Global};
 use std::io::{Read, Write};
+use std::marker::PhantomData;
 use std::sync::Wait;
 
-/// The most bytes that are read in one turn: some fourteen commands.
-const PIECE_LEN: usize = 256;
-
-/// A consumer that is connected: its session, and where it stands in the stream.
+/// A consumer that is connected to the stream that is kept: its session, and where it stands in the stream.
 #[derive(Drop)]
-pub struct Consumer {
+pub struct Consumer<N: Naming> {
     session: Session,
     id: StreamId,
     place: Place,
@@ -31,8 +34,10 @@ pub struct Consumer {
     piece: Vec<u8>,
     layout: Vec<u8>,
     out: Vec<u8>,
+    of: PhantomData<N>,
     pub ghost of_stream: { session.id ≡ id.value },
-    pub ghost has_room: { 0 < vec_len piece },
+    pub ghost of_kept: { id.value ≡ N.stream.id },
+    pub ghost has_room: { vec_len piece ≡ PIECE_LEN },
 }
 
 /// The stamp of the layout that replies were made of, where any were made.
@@ -52,20 +57,22 @@ fn place_after(place: Place, stamp: Option<Stamp>, replies: &[u8]) -> Place
     }
 }
 
-impl Consumer {
+impl<N: Naming> Consumer<N> {
     ghost use Rattle.pdc_server.specs.Consumer.{got_in, heard_in, id_in, is_silent_in, place_in, session_in, standing_in};
 
-    /// A consumer of the stream `id`, that sent nothing yet.
+    /// A consumer of the stream whose frames are kept there, that sent nothing yet.
     ///
     /// # Errors
     ///
-    /// [`AllocError`] where there is no memory for the longest frame and for a read.
-    pub fn new(alloc: Global, id: StreamId) -> Result<Consumer, AllocError>
-        ensures id { IfOk result (λ consumer. id_in consumer ≡ id.value) }
+    /// [`AllocError`] where a request for room for the longest frame, or for a read, was refused.
+    pub fn new(alloc: Global, recent: &Recent<N>) -> Result<Consumer<N>, AllocError>
+        ensures id { IfOk result (λ consumer. id_in consumer ≡ N.stream.id) }
         ensures is_new { IfOk result (λ consumer. IsNew (session_in consumer)) }
         ensures place { IfOk result (λ consumer. place_in consumer ≡ first_place) }
         ensures heard { IfOk result (λ consumer. heard_in consumer ≡ false) }
+        ensures refused { OnErr result (WasRefused MAX_SIZE ⊎ WasRefused PIECE_LEN) }
     {
+        let id = recent.id();
         Ok(Consumer {
             session: Session::new(alloc, id)?,
             id,
@@ -74,9 +81,10 @@ impl Consumer {
                 seen: Seen::Nothing,
             },
             heard: false,
-            piece: vec![in alloc; 0u8; PIECE_LEN]?,
+            piece: blank_piece(alloc, PIECE_LEN)?,
             layout: Vec::new(alloc),
             out: Vec::new(alloc),
+            of: PhantomData,
         })
     }
 
@@ -117,7 +125,7 @@ impl Consumer {
 
     /// Notes whether bytes came, and makes what is to be written once so many did: the replies to the commands that end there, and behind
     /// them, while data is on, what it is given of the stream next.
-    fn make<N: Naming, R: Wait>(
+    fn make<R: Wait>(
         &mut self,
         rt: &R,
         recent: &Recent<N>,
@@ -129,6 +137,8 @@ impl Consumer {
         ensures heard { heard_in self.new ≡ has_bytes (take count self.old.piece.items) }
         ensures ok { OnOk result (IsMade None (dated_at N.stream soc) (id_in self.old) (take count self.old.piece.items) (standing_in self.old) (standing_in self.new) self.new.out.items) }
         ensures err { IfErr result (λ ended. IsMade (Some ended) (dated_at N.stream soc) (id_in self.old) (take count self.old.piece.items) (standing_in self.old) (standing_in self.new) self.new.out.items) }
+        ensures refused { IsErrOf result Ended.NoMemory → SomeWasRefused }
+        ensures denied { (session_in self.old).ended ≡ None → IsErrOf result (Ended.Session SessionFault.NoMemory) → SomeWasRefused }
     {
         self.heard = count > 0;
         self.out.clear();
@@ -158,7 +168,7 @@ impl Consumer {
     /// # Errors
     ///
     /// Why the session ended. Replies to commands before a fault of the session, and before a want of memory, are written.
-    pub fn turn<N: Naming, S: Read + Write, R: Wait>(
+    pub fn turn<S: Read + Write, R: Wait>(
         &mut self,
         rt: &R,
         recent: &Recent<N>,
@@ -166,8 +176,11 @@ impl Consumer {
         stream: &mut S,
     ) -> Result<(), Ended>
         ensures id { id_in self.new ≡ id_in self.old }
+        ensures stream { id_in self.old ≡ N.stream.id }
         ensures ok { OnOk result (HasTurned S.remaining S.contents (dated_at N.stream soc) (id_in self.old) (standing_in self.old) (standing_in self.new) stream.old stream.new) }
         ensures ended { IfErr result (HasEnded S.remaining S.contents (dated_at N.stream soc) (id_in self.old) (standing_in self.old) (standing_in self.new) stream.old stream.new) }
+        ensures refused { IsErrOf result Ended.NoMemory → SomeWasRefused }
+        ensures denied { (session_in self.old).ended ≡ None → IsErrOf result (Ended.Session SessionFault.NoMemory) → SomeWasRefused }
     {
         let count = read_once(stream, &mut self.piece)?;
         let made = self.make(rt, recent, soc, count);

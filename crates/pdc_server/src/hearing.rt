@@ -1,9 +1,12 @@
 //! What a piece of the consumer's stream is answered.
-ghost use Rattle.std.specs.Prelude.{◌≡◌, ◌≤◌, length, true, false, Some, IfOk, IfErr, OnErr, OnOk};
+ghost use Rattle.std.specs.Prelude.{◌≡◌, ◌≤◌, length, true, false, Some, None, IfOk, IfErr, IsErrOf, OnErr, OnOk};
 ghost use Rattle.pdc_cfg.specs.Config.{config_fields_of};
 ghost use Rattle.pdc_frame.specs.declared.header.TheConstants.{MAX_TEXT};
+ghost use Rattle.pdc_session.specs.pdc_memory.Asking.{SomeWasRefused};
 ghost use Rattle.pdc_server.specs.Given.{IsGiven};
+ghost use Rattle.pdc_server.specs.Remembering.{IsGivenOf, OfFound};
 ghost use Rattle.pdc_server.specs.Stream.{IsLayout, IsLayoutWith};
+ghost use Rattle.pdc_server.specs.declared.limits.TheConstants.{PIECE_LEN};
 ghost use Rattle.pdc_server.specs.Turn.{HasFailed, HasHeard, IsAnswered, IsUnheard, dated_at};
 
 use crate::ended::Ended;
@@ -60,6 +63,7 @@ fn hear<N: Naming>(
     ensures id { session.new.id ≡ session.old.id }
     ensures ok { OnOk result (IsAnswered (dated_at N.stream source.now.soc) source.now.stamp source.now.header.now piece.now session.old session.new out.old.items out.new.items) }
     ensures failed { IfErr result (λ fault. HasFailed (dated_at N.stream source.now.soc) source.now.stamp source.now.header.now piece.now session.old session.new out.old.items out.new.items fault) }
+    ensures refused { session.old.ended ≡ None → IsErrOf result SessionFault.NoMemory → SomeWasRefused }
 {
     let serving = Serving {
         soc: source.soc,
@@ -74,7 +78,7 @@ fn hear<N: Naming>(
 ///
 /// # Errors
 ///
-/// Where the session ends; `out` has the replies to the commands before. And where there is no memory for the layout.
+/// Where the session ends; `out` has the replies to the commands before. And where a request for the layout was refused.
 pub fn answer<N: Naming, R: Wait>(
     rt: &R,
     recent: &Recent<N>,
@@ -83,9 +87,12 @@ pub fn answer<N: Naming, R: Wait>(
     layout: &mut Vec<u8>,
     out: &mut Vec<u8>,
 ) -> Result<Option<Stamp>, Ended>
+    requires { length question.now.piece.now ≤ PIECE_LEN }
     ensures id { session.new.id ≡ session.old.id }
     ensures ok { IfOk result (λ stamp. HasHeard (dated_at N.stream question.now.soc) stamp question.now.id.value question.now.piece.now session.old session.new out.old.items out.new.items) }
     ensures unheard { IfErr result (λ ended. IsUnheard ended (dated_at N.stream question.now.soc) question.now.id.value question.now.piece.now session.old session.new out.old.items out.new.items) }
+    ensures refused { IsErrOf result Ended.NoMemory → SomeWasRefused }
+    ensures denied { session.old.ended ≡ None → IsErrOf result (Ended.Session SessionFault.NoMemory) → SomeWasRefused }
 {
     if question.piece.is_empty() {
         return Ok(None);
@@ -113,7 +120,7 @@ pub fn answer<N: Naming, R: Wait>(
 ///
 /// # Errors
 ///
-/// Where it wants data, and there is no memory for the frames. `out` is unchanged then.
+/// Where it wants data, and a request for the frames was refused. `out` is unchanged then.
 pub fn append_data<N: Naming, R: Wait>(
     rt: &R,
     session: &Session,
@@ -124,8 +131,10 @@ pub fn append_data<N: Naming, R: Wait>(
 ) -> Result<Place, Ended>
     ensures off { session.now.told.on ≡ false → IfOk result (λ reached. (reached ≡ place) × (out.new.items ≡ out.old.items)) }
     ensures on { session.now.told.on ≡ true → IfOk result (λ reached. IsGiven N.stream place out.old.items reached out.new.items) }
+    ensures given { session.now.told.on ≡ true → IfOk result (λ reached. OfFound (λ memory. IsGivenOf memory place is_fresh out.old.items reached out.new.items)) }
     ensures err { OnErr result (out.new.items ≡ out.old.items) }
     ensures wanted { IfErr result (λ ended. (ended ≡ Ended.NoMemory) × (session.now.told.on ≡ true)) }
+    ensures refused { OnErr result SomeWasRefused }
 {
     if !session.on() {
         return Ok(place);

@@ -1,5 +1,5 @@
 //! What a publisher sends is what is kept: the contract of a function that does nothing but call the laws that it stands on.
-ghost use Rattle.pdc_server.specs.Fits.{DataFitsItsLayout};
+ghost use Rattle.pdc_server.specs.Fits.{DataFitsItsLayout, LayoutsAreToldFirst};
 ghost use Rattle.pdc_server.specs.Laws.{RowsAreData};
 
 use pdc_frame::tag_comes_back;
@@ -14,7 +14,9 @@ pub fn rows_are_data()
 }
 
 /// Of all that a new consumer is written, in however many turns, each data frame is of the layout of the last CFG-2 frame before it, where
-/// there is one.
+/// there is one; and of that of the last frame before it, so that the CFG-2 frame of a new layout is written before the first data frame
+/// under it.
 pub fn data_fits_its_layout()
-    ensures { DataFitsItsLayout }
+    ensures fits { DataFitsItsLayout }
+    ensures first { LayoutsAreToldFirst }
 {}

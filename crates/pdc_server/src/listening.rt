@@ -66,7 +66,7 @@ fn is_over<R: Clock>(rt: &R, since: Option<Instant>) -> bool {
 fn wait_for_more<N: Naming, S, R: Wait + Clock>(
     rt: &R,
     recent: &Recent<N>,
-    consumer: &Consumer,
+    consumer: &Consumer<N>,
     line: &mut Line<S>,
 ) {
     let is_on = consumer.wants_data();
@@ -111,7 +111,7 @@ fn left_of<S: Drop>(line: &Line<S>) -> Left<S> {
 }
 
 /// Whether the consumer sent or got something in its turn, before which it had got data up to this instant.
-fn is_active(consumer: &Consumer, got: u64) -> bool {
+fn is_active<N: Naming>(consumer: &Consumer<N>, got: u64) -> bool {
     consumer.was_heard() || consumer.got() != got
 }
 
@@ -133,7 +133,7 @@ where
         return Left::Itself;
     }
     let mut line = Line::new(stream);
-    let Ok(mut consumer) = Consumer::new(alloc, recent.id()) else {
+    let Ok(mut consumer) = Consumer::new(alloc, recent) else {
         return Left::Itself;
     };
     let mut since = Instant::now(rt).ok();

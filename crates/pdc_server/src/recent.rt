@@ -1,6 +1,9 @@
 //! The lock round what was sent last.
-ghost use Rattle.std.specs.Prelude.{◌≡◌, ◌++◌, ℕ, List, OnErr, OnOk, IfOk};
+ghost use Rattle.std.specs.Prelude.{◌≡◌, ◌++◌, ℕ, List, length, OnErr, OnOk, IfOk};
+ghost use Rattle.pdc_session.specs.pdc_memory.Asking.{ForSome, SomeWasRefused, WasRefused};
+ghost use Rattle.pdc_session.specs.declared.recent.TheConstants.{KEPT_FRAMES};
 ghost use Rattle.pdc_server.specs.Given.{IsGiven};
+ghost use Rattle.pdc_server.specs.Remembering.{IsGivenOf, IsPushed, OfFound, OfLeft, laid_out};
 ghost use Rattle.pdc_server.specs.Stamps.{first_stamp};
 ghost use Rattle.pdc_server.specs.Stream.{IsData, IsLayout, stream_of};
 
@@ -28,7 +31,8 @@ pub struct Recent<N: Naming> {
 
 /// The layout frame before the first adoption of a life with this start: the own section alone.
 fn first_layout(alloc: Global, output: &Output, start: u32) -> Result<Vec<u8>, AllocError>
-    ensures { IfOk result (λ layout. IsLayout (stream_of output.now) (first_stamp start) layout.items) }
+    ensures layout { IfOk result (λ layout. IsLayout (stream_of output.now) (first_stamp start) layout.items) }
+    ensures refused { OnErr result SomeWasRefused }
 {
     let mut layout = Vec::new(alloc);
     append_layout(output, start, 0, &[], 0, &mut layout)?;
@@ -40,9 +44,10 @@ impl<N: Naming> Recent<N> {
     ///
     /// # Errors
     ///
-    /// [`AllocError`] where there is no memory for the ring or for the layout frame.
+    /// [`AllocError`] where a request for the ring, or for the layout frame, was refused.
     pub fn new(alloc: Global, output: &Output, start: u32) -> Result<Recent<N>, AllocError>
         requires { N.stream ≡ stream_of output.now }
+        ensures refused { OnErr result SomeWasRefused }
     {
         let layout = first_layout(alloc, output, start)?;
         Ok(Recent {
@@ -64,7 +69,8 @@ impl<N: Naming> Recent<N> {
     ///
     /// # Errors
     ///
-    /// [`AllocError`] where there is no memory for the frame's bytes. Nothing is kept then.
+    /// [`AllocError`] where a request for the frame's bytes was refused. Nothing is kept then.
+    #[tactic(auto, unfolding(crate::specs::Remembering::WasFound, crate::specs::Remembering::WasLeft))]
     pub fn push<R: Wait>(
         &self,
         rt: &R,
@@ -74,6 +80,8 @@ impl<N: Naming> Recent<N> {
         bytes: &[u8],
     ) -> Result<bool, AllocError>
         requires { ∥ IsData N.stream stamp instant bytes.now ∥₁ }
+        ensures kept { IfOk result (λ is_kept. OfLeft (λ memory later. IsPushed is_kept memory stamp instant bytes.now later)) }
+        ensures refused { OnErr result (WasRefused (length bytes.now)) }
     {
         let mut held = self.remembered.lock(rt);
         if !held.is_in_force(stamp) {
@@ -99,7 +107,8 @@ impl<N: Naming> Recent<N> {
     ///
     /// # Errors
     ///
-    /// [`AllocError`] where `out` has no room for it and gets none. `out` is unchanged then.
+    /// [`AllocError`] where `out` has no room for it, and its request for it was refused. `out` is unchanged then.
+    #[tactic(auto, unfolding(crate::specs::Remembering::WasFound))]
     pub fn after<B: Buffer, R: Wait>(
         &self,
         rt: &R,
@@ -108,7 +117,9 @@ impl<N: Naming> Recent<N> {
         out: &mut B,
     ) -> Result<Place, AllocError>
         ensures ok { IfOk result (λ now. IsGiven N.stream place (B.content out.old) now (B.content out.new)) }
+        ensures given { IfOk result (λ now. OfFound (λ memory. IsGivenOf memory place is_fresh (B.content out.old) now (B.content out.new))) }
         ensures err { OnErr result (B.content out.new ≡ B.content out.old) }
+        ensures refused { OnErr result (ForSome (B.refused out.new)) }
     {
         self.remembered.lock(rt).after(place, is_fresh, out)
     }
@@ -117,7 +128,8 @@ impl<N: Naming> Recent<N> {
     ///
     /// # Errors
     ///
-    /// [`AllocError`] where it is another layout than before, and there is no memory for its frames. Nothing is kept then.
+    /// [`AllocError`] where it is another layout than before, and a request for room for its frames was refused. Nothing is kept then.
+    #[tactic(auto, unfolding(crate::specs::Remembering::WasFound, crate::specs::Remembering::WasLeft))]
     pub fn keep_layout<R: Wait>(
         &self,
         rt: &R,
@@ -126,6 +138,8 @@ impl<N: Naming> Recent<N> {
         layout: Vec<u8>,
     ) -> Result<(), AllocError>
         requires { IsLayout N.stream stamp layout.items }
+        ensures kept { OnOk result (OfLeft (λ memory later. later ≡ laid_out memory stamp layout.items)) }
+        ensures refused { OnErr result (WasRefused KEPT_FRAMES) }
     {
         self.remembered.lock(rt).keep_layout(alloc, stamp, layout)
     }
@@ -134,10 +148,13 @@ impl<N: Naming> Recent<N> {
     ///
     /// # Errors
     ///
-    /// [`AllocError`] where `out` has no room for it and gets none. `out` is unchanged then.
+    /// [`AllocError`] where `out` has no room for it, and its request for it was refused. `out` is unchanged then.
+    #[tactic(auto, unfolding(crate::specs::Remembering::WasFound))]
     pub fn layout<B: Buffer, R: Wait>(&self, rt: &R, out: &mut B) -> Result<Stamp, AllocError>
+        ensures kept { IfOk result (λ stamp. OfFound (λ memory. (stamp ≡ memory.stamp) × (B.content out.new ≡ B.content out.old ++ memory.layout))) }
         ensures ok { IfOk result (λ stamp. (frame : List ℕ) × ∥ IsLayout N.stream stamp frame ∥₁ × (B.content out.new ≡ B.content out.old ++ frame)) }
         ensures err { OnErr result (B.content out.new ≡ B.content out.old) }
+        ensures refused { OnErr result (ForSome (B.refused out.new)) }
     {
         self.remembered.lock(rt).layout(out)
     }

@@ -1,9 +1,11 @@
 //! What is held under the lock.
-ghost use Rattle.std.specs.Prelude.{◌≡◌, ◌++◌, ℕ, List, [], true, false, OnErr, OnOk, IfOk};
+ghost use Rattle.std.specs.Prelude.{◌≡◌, ◌++◌, ℕ, List, [], length, true, false, OnErr, OnOk, IfOk};
 ghost use Rattle.pdc_server.specs.Given.{IsGiven};
 ghost use Rattle.pdc_server.specs.Places.{Takes, takes};
 ghost use Rattle.pdc_server.specs.Stream.{AreData, IsData, IsLayout};
 ghost use Rattle.pdc_server.specs.declared.place.Seen.TheVariants.{Layout};
+ghost use Rattle.pdc_session.specs.pdc_memory.Asking.{ForSome, WasRefused};
+ghost use Rattle.pdc_session.specs.declared.recent.TheConstants.{KEPT_FRAMES};
 ghost use Rattle.pdc_session.specs.Recent.{above, bytes_of, greatest_of, is_old, pushed};
 
 use crate::naming::Naming;
@@ -37,10 +39,14 @@ pub struct Remembered<N: Naming> {
 }
 
 impl<N: Naming> Remembered<N> {
+    ghost use Rattle.pdc_server.specs.Remembering.{IsGivenOf, kept_with, laid_out, memory_of, no_frames};
+    ghost use Rattle.pdc_server.specs.Stamps.{is_stamp};
+
     /// No data frame yet, and this layout frame.
     pub fn new(alloc: Global, stamp: Stamp, layout: Vec<u8>) -> Result<Remembered<N>, AllocError>
         requires { ∥ IsLayout N.stream stamp layout.items ∥₁ }
-        ensures { IfOk result (λ remembered. (remembered.frames.frames ≡ []) × (remembered.stamp ≡ stamp) × (remembered.layout ≡ layout) × (remembered.closed ≡ false)) }
+        ensures refused { OnErr result (WasRefused KEPT_FRAMES) }
+        ensures kept { IfOk result (λ remembered. (remembered.frames.frames ≡ []) × (remembered.stamp ≡ stamp) × (remembered.layout ≡ layout) × (remembered.closed ≡ false)) }
     {
         Ok(Remembered {
             frames: Frames::new(alloc)?,
@@ -57,7 +63,8 @@ impl<N: Naming> Remembered<N> {
 
     /// Whether the layout with this stamp is in force.
     pub fn is_in_force(&self, stamp: Stamp) -> bool
-        ensures { result ≡ true → self.now.stamp ≡ stamp }
+        ensures same { result ≡ true → self.now.stamp ≡ stamp }
+        ensures is { result ≡ is_stamp self.now.stamp stamp }
     {
         is_stamp(self.stamp, stamp)
     }
@@ -65,15 +72,19 @@ impl<N: Naming> Remembered<N> {
     /// Keeps a data frame of this instant, which is of the layout in force, as `pdc_session`'s `Frames` does.
     pub fn push(&mut self, alloc: Global, instant: u64, bytes: &[u8]) -> Result<(), AllocError>
         requires { ∥ IsData N.stream self.old.stamp instant bytes.now ∥₁ }
+        ensures kept { OnOk result (memory_of self.new ≡ record (memory_of self.old) { frames = kept_with self.old.frames instant bytes.now }) }
         ensures later { is_old self.old.frames.greatest instant ≡ false → OnOk result (self.new.frames ≡ pushed self.old.frames instant bytes.now) }
         ensures old { is_old self.old.frames.greatest instant ≡ true → OnOk result (self.new.frames ≡ self.old.frames) }
         ensures err { OnErr result (self.new ≡ self.old) }
+        ensures refused { OnErr result (WasRefused (length bytes.now)) }
     {
         self.frames.push(alloc, instant, bytes)
     }
 
     /// Notes that a frame of this instant is kept.
-    pub fn note(&mut self, instant: u64) {
+    pub fn note(&mut self, instant: u64)
+        ensures { memory_of self.new ≡ memory_of self.old }
+    {
         self.last = self.last.max(instant);
     }
 
@@ -114,6 +125,7 @@ impl<N: Naming> Remembered<N> {
         ensures greatest { IfOk result (λ now. now.got ≡ greatest_of place.got (above place.got self.now.frames.frames)) }
         ensures seen { IfOk result (λ now. now.seen ≡ Layout self.now.stamp) }
         ensures err { OnErr result (B.content out.new ≡ B.content out.old) }
+        ensures refused { OnErr result (ForSome (B.refused out.new)) }
     {
         let got = self.frames.after(place.got, out)?;
         Ok(Place {
@@ -125,8 +137,12 @@ impl<N: Naming> Remembered<N> {
     /// The same of the frames of the layout before.
     fn give_older<B: Buffer>(&self, place: Place, out: &mut B) -> Result<Place, AllocError>
         requires { Takes place.seen self.now.older_stamp }
+        ensures bytes { OnOk result (B.content out.new ≡ B.content out.old ++ bytes_of (above place.got self.now.older.frames)) }
+        ensures greatest { IfOk result (λ now. now.got ≡ greatest_of place.got (above place.got self.now.older.frames)) }
+        ensures seen { IfOk result (λ now. now.seen ≡ Layout self.now.older_stamp) }
         ensures ok { IfOk result (λ now. IsGiven N.stream place (B.content out.old) now (B.content out.new)) }
         ensures err { OnErr result (B.content out.new ≡ B.content out.old) }
+        ensures refused { OnErr result (ForSome (B.refused out.new)) }
     {
         let got = self.older.after(place.got, out)?;
         Ok(Place {
@@ -139,8 +155,10 @@ impl<N: Naming> Remembered<N> {
     fn tell_layout<B: Buffer>(&self, place: Place, out: &mut B) -> Result<Place, AllocError>
         ensures ok { IfOk result (λ now. IsGiven N.stream place (B.content out.old) now (B.content out.new)) }
         ensures bytes { OnOk result (B.content out.new ≡ B.content out.old ++ self.now.layout.items) }
+        ensures got { IfOk result (λ now. now.got ≡ place.got) }
         ensures seen { IfOk result (λ now. now.seen ≡ Layout self.now.stamp) }
         ensures err { OnErr result (B.content out.new ≡ B.content out.old) }
+        ensures refused { OnErr result (B.refused out.new (length self.now.layout.items)) }
     {
         self.layout(out)?;
         Ok(Place {
@@ -159,9 +177,11 @@ impl<N: Naming> Remembered<N> {
         out: &mut B,
     ) -> Result<Place, AllocError>
         ensures ok { IfOk result (λ now. IsGiven N.stream place (B.content out.old) now (B.content out.new)) }
+        ensures given { IfOk result (λ now. IsGivenOf (memory_of self.now) place is_fresh (B.content out.old) now (B.content out.new)) }
         ensures all { takes place.seen self.now.stamp ≡ true → OnOk result (B.content out.new ≡ B.content out.old ++ bytes_of (above place.got self.now.frames.frames)) }
         ensures fresh { is_fresh ≡ true → IfOk result (λ now. now.seen ≡ Layout self.now.stamp) }
         ensures err { OnErr result (B.content out.new ≡ B.content out.old) }
+        ensures refused { OnErr result (ForSome (B.refused out.new)) }
     {
         if self.takes(place) {
             return self.give(place, out);
@@ -175,7 +195,8 @@ impl<N: Naming> Remembered<N> {
     /// Keeps the frame of the layout in force, in place of the one before.
     fn repeat_layout(&mut self, layout: Vec<u8>)
         requires { ∥ IsLayout N.stream self.old.stamp layout.items ∥₁ }
-        ensures { (self.new.frames ≡ self.old.frames) × (self.new.stamp ≡ self.old.stamp) × (self.new.layout ≡ layout) × (self.new.closed ≡ self.old.closed) }
+        ensures { (self.new.frames ≡ self.old.frames) × (self.new.stamp ≡ self.old.stamp) × (self.new.layout ≡ layout) × (self.new.closed ≡ self.old.closed)
+            × (self.new.older ≡ self.old.older) × (self.new.older_stamp ≡ self.old.older_stamp) }
     {
         self.layout = layout;
     }
@@ -183,7 +204,7 @@ impl<N: Naming> Remembered<N> {
     /// The layout with this frame is in force from now on: no frame of it is kept yet.
     fn change_layout(&mut self, none: Frames, stamp: Stamp, layout: Vec<u8>)
         requires layout { ∥ IsLayout N.stream stamp layout.items ∥₁ }
-        requires none { none.frames ≡ [] }
+        requires none { none ≡ no_frames }
         ensures { (self.new.frames ≡ none) × (self.new.older ≡ self.old.frames) × (self.new.older_stamp ≡ self.old.stamp) × (self.new.stamp ≡ stamp) × (self.new.layout ≡ layout)
             × (self.new.closed ≡ self.old.closed) }
     {
@@ -208,7 +229,9 @@ impl<N: Naming> Remembered<N> {
     ) -> Result<(), AllocError>
         requires { ∥ IsLayout N.stream stamp layout.items ∥₁ }
         ensures ok { OnOk result ((self.new.stamp ≡ stamp) × (self.new.layout ≡ layout)) }
+        ensures laid { OnOk result (memory_of self.new ≡ laid_out (memory_of self.old) stamp layout.items) }
         ensures err { OnErr result (self.new ≡ self.old) }
+        ensures refused { OnErr result (WasRefused KEPT_FRAMES) }
     {
         if self.is_in_force(stamp) {
             self.repeat_layout(layout);
@@ -225,6 +248,7 @@ impl<N: Naming> Remembered<N> {
         ensures ok { OnOk result (B.content out.new ≡ B.content out.old ++ self.now.layout.items) }
         ensures stamp { IfOk result (λ stamp. stamp ≡ self.now.stamp) }
         ensures err { OnErr result (B.content out.new ≡ B.content out.old) }
+        ensures refused { OnErr result (B.refused out.new (length self.now.layout.items)) }
     {
         out.make_room(self.layout.len())?;
         out.append_bytes(&self.layout);

@@ -1,5 +1,6 @@
 //! What a concentrator needs of the machine that it runs on.
 
+use pdc_metrics::OwnFiles;
 use pdc_recording::Shelf;
 use std::fs::File;
 use std::net::{Net, TcpListener, TcpStream};
@@ -11,6 +12,7 @@ use std::thread::Threads;
 /// A machine that a concentrator can run on: it has files, memory, a clock, sockets, threads, random bytes and standard error.
 pub trait Host: Files<File = File>
     + Shelf
+    + OwnFiles
     + AllocGlobal
     + Clock
     + Net<Listener = TcpListener, Stream = TcpStream>
@@ -23,6 +25,7 @@ pub trait Host: Files<File = File>
 impl<
     R: Files<File = File>
         + Shelf
+        + OwnFiles
         + AllocGlobal
         + Clock
         + Net<Listener = TcpListener, Stream = TcpStream>

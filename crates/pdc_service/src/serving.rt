@@ -17,7 +17,7 @@ use crate::porter::JournalPorter;
 use crate::telling::unsent_text;
 use pdc_journal::{AnnouncingSink, CountingSink, Journal, Reporting, RunCounters};
 use pdc_mark::Mark;
-use pdc_metrics::{Metered, serve_metrics};
+use pdc_metrics::{Metered, OwnFiles, serve_metrics};
 use pdc_recording::{RecordedTicker, Series, Shelf, write_record};
 use pdc_server::{Naming, Recent, Reception, RememberingSink, Seats, serve};
 use pdc_startup::{
@@ -124,7 +124,7 @@ fn start_journal<'s, E: 's, R: Wait + Clock + Eprint + Sync + 's>(
 }
 
 /// Serves the counters until the run ends.
-fn serve_counters<R: Wait + Clock + RandomSource>(
+fn serve_counters<R: Wait + Clock + RandomSource + OwnFiles>(
     rt: &R,
     alloc: Global,
     listener: &TcpListener,
@@ -140,7 +140,7 @@ fn serve_counters<R: Wait + Clock + RandomSource>(
 }
 
 /// Starts the thread that serves the counters, where they are asked for, and answers whether it was started, or none is wanted.
-fn start_metrics<'s, E: 's, R: Wait + Clock + RandomSource + Sync + 's>(
+fn start_metrics<'s, E: 's, R: Wait + Clock + RandomSource + OwnFiles + Sync + 's>(
     scope: &'s Scope<'s, E>,
     rt: &'s R,
     alloc: Global,
@@ -241,6 +241,7 @@ fn run_observed<
     let sink = AnnouncingSink::new(rt, alloc, journal, observed.followers(), sink);
     let sink = CountingSink::new(sink, &signs.unsent);
     let sink = RememberingSink::new(rt, alloc, recent, output, &signs.unsent, sink);
+    let mark = mark.timed(rt, &observed.stores);
     let handed = hand_over(mark, sources, ticker, sink);
     let outcome = run_concentrator(rt, alloc, concentrator, &plan, handed);
     let unsent = signs.unsent.load(Ordering::Relaxed);
@@ -273,7 +274,7 @@ fn conduct<
     M: Mark + Drop + 's,
     K: Sink + Send + Drop + 's,
     N: Naming + Send + 's,
-    R: Threads + Wait + Clock + Eprint + RandomSource + Shelf + Sync + 's,
+    R: Threads + Wait + Clock + Eprint + RandomSource + Shelf + OwnFiles + Sync + 's,
 >(
     scope: &'s Scope<'s, E>,
     rt: &'s R,
@@ -318,7 +319,7 @@ fn run_keeping<
     M: Mark + Drop + 'x,
     K: Sink + Send + Drop + 'x,
     N: Naming + Send + 'x,
-    R: Threads + Wait + Clock + Eprint + RandomSource + Shelf + Sync + 'x,
+    R: Threads + Wait + Clock + Eprint + RandomSource + Shelf + OwnFiles + Sync + 'x,
 >(
     rt: &'x R,
     alloc: Global,
@@ -353,7 +354,7 @@ fn run_named<
     M: Mark + Drop,
     K: Sink + Send + Drop,
     N: Naming + Send,
-    R: Threads + Wait + Clock + Eprint + RandomSource + Shelf + Sync,
+    R: Threads + Wait + Clock + Eprint + RandomSource + Shelf + OwnFiles + Sync,
 >(
     rt: &R,
     alloc: Global,
@@ -379,7 +380,7 @@ pub fn run_serving<
     S: Source + Send + Drop,
     M: Mark + Drop,
     K: Sink + Send + Drop,
-    R: Threads + Wait + Clock + Eprint + RandomSource + Shelf + Sync,
+    R: Threads + Wait + Clock + Eprint + RandomSource + Shelf + OwnFiles + Sync,
 >(
     rt: &R,
     alloc: Global,

@@ -97,10 +97,10 @@ served_bad law id serving piece stream base n held later told after out grown h 
       );
     }
 
-served_lacking : (id : ℕ) (serving : Serving) (piece stream base : List ℕ) (n : ℕ) (held later : Held) (told after : Told) (out grown : List ℕ) (room : ℕ)
-    → LacksOne id serving (take n piece) held told out later after grown room
+served_lacking : (id : ℕ) (serving : Serving) (piece stream base : List ℕ) (n : ℕ) (held later : Held) (told after : Told) (out grown : List ℕ) (room : ℕ) (Refused : ℕ → Type 0)
+    → LacksOne id serving (take n piece) held told out later after grown room Refused
     → HasServed serving stream base (view id held told None) out → HasServed serving (stream ++ piece) base (view id later after (Some NoMemory)) grown
-served_lacking id serving piece stream base n held later told after out grown room h s =
+served_lacking id serving piece stream base n held later told after out grown room Refused h s =
     let taken : HasTaken (stream ++ take n piece) (s.frames ++ h.frames) later = h.hears.stream stream s.frames s.stands.1 in
     let rest : List ℕ = pending_of later.step later.bytes ++ drop n piece in
     let frames : List ℕ = flat_map (λ (frame : List ℕ). frame) (s.frames ++ h.frames) in
@@ -162,20 +162,20 @@ abbrev pub Ends : {T : Type 0} → Result T SessionFault → Option SessionFault
 Ends (Ok done) ended = ended ≡ None
 Ends (Err fault) ended = ended ≡ Some fault
 
-pub served_more : {T : Type 0} → FramerLaw → (id : ℕ) (serving : Serving) (piece stream base : List ℕ) (held later : Held) (told after : Told) (out grown : List ℕ) (room : ℕ)
+pub served_more : {T : Type 0} → FramerLaw → (id : ℕ) (serving : Serving) (piece stream base : List ℕ) (held later : Held) (told after : Told) (out grown : List ℕ) (room : ℕ) (Refused : ℕ → Type 0)
     (answer : Result T SessionFault) (ended : Option SessionFault) → Ends answer ended → OnOk answer (IsBad later.step → ⊥)
     → OnOk answer (HasAnswered id serving piece held told out later after grown)
     → (IsErrOf answer BadStream → IsBad later.step × (n : ℕ) × (n ≤ length piece) × HasAnswered id serving (take n piece) held told out later after grown)
-    → (IsErrOf answer NoMemory → (n : ℕ) × (n ≤ length piece) × LacksOne id serving (take n piece) held told out later after grown room)
+    → (IsErrOf answer NoMemory → (n : ℕ) × (n ≤ length piece) × LacksOne id serving (take n piece) held told out later after grown room Refused)
     → HasServed serving stream base (view id held told None) out → HasServed serving (stream ++ piece) base (view id later after ended) grown
-served_more law id serving piece stream base held later told after out grown room (Ok done) ended e good ok bad memory s =
+served_more law id serving piece stream base held later told after out grown room Refused (Ok done) ended e good ok bad memory s =
     subst (λ (x : Option SessionFault). HasServed serving (stream ++ piece) base (view id later after x) grown) (sym e) (served_ok id serving piece stream base held later told after out grown ok good s)
-served_more law id serving piece stream base held later told after out grown room (Err BadStream) ended e good ok bad memory s =
+served_more law id serving piece stream base held later told after out grown room Refused (Err BadStream) ended e good ok bad memory s =
     let h : IsBad later.step × (n : ℕ) × (n ≤ length piece) × HasAnswered id serving (take n piece) held told out later after grown = bad refl in
     subst (λ (x : Option SessionFault). HasServed serving (stream ++ piece) base (view id later after x) grown) (sym e) (served_bad law id serving piece stream base h.1 held later told after out grown h.3 h.0 s)
-served_more law id serving piece stream base held later told after out grown room (Err NoMemory) ended e good ok bad memory s =
-    let h : (n : ℕ) × (n ≤ length piece) × LacksOne id serving (take n piece) held told out later after grown room = memory refl in
-    subst (λ (x : Option SessionFault). HasServed serving (stream ++ piece) base (view id later after x) grown) (sym e) (served_lacking id serving piece stream base h.0 held later told after out grown room h.2 s)
+served_more law id serving piece stream base held later told after out grown room Refused (Err NoMemory) ended e good ok bad memory s =
+    let h : (n : ℕ) × (n ≤ length piece) × LacksOne id serving (take n piece) held told out later after grown room Refused = memory refl in
+    subst (λ (x : Option SessionFault). HasServed serving (stream ++ piece) base (view id later after x) grown) (sym e) (served_lacking id serving piece stream base h.0 held later told after out grown room Refused h.2 s)
 
 -- ---- piece after piece
 

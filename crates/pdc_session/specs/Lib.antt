@@ -5,3 +5,4 @@ pub mod Client
 pub mod Counted
 pub mod Counting
 pub mod Search
+pub use Rattle.pdc_memory.specs as pdc_memory

@@ -1,15 +1,18 @@
 //! The client.
-ghost use Rattle.std.specs.Prelude.{◌≡◌, ◌⊎◌, ◌≤◌, ◌<◌, ◌+◌, ◌-◌, [], None, IfOk, IsErrOf, IsOkAnd, OnErr, OnOk, is_err};
+ghost use Rattle.std.specs.Prelude.{◌≡◌, ◌⊎◌, ◌≤◌, ◌<◌, ◌+◌, ◌-◌, ℕ, [], length, None, IfOk, IsErrOf, IsOkAnd, OnErr, OnOk, is_err};
 ghost use Rattle.std.specs.Io.KnownBytes.{Appends};
 ghost use Rattle.pdc_frame.specs.Frame.{Fields, IsFrame, spelling_of};
 ghost use Rattle.pdc_frame.specs.Stream.{HasTaken};
 ghost use Rattle.pdc_frame.specs.Command.{command_fields};
+ghost use Rattle.pdc_memory.specs.Asking.{WasRefused};
 ghost use Rattle.pdc_session.specs.Counted.{faults_after, is_device, reads_after};
 ghost use Rattle.pdc_session.specs.Search.{Searches};
 ghost use Rattle.pdc_session.specs.declared.telling.TheConstants.{COMMAND_SOC};
 ghost use Rattle.pdc_session.specs.declared.search.TheConstants.{MAX_READS};
 ghost use Rattle.pdc_frame.specs.declared.frame.Kind.TheVariants.{Cfg2, DataFrame, HeaderFrame};
 ghost use Rattle.pdc_session.specs.declared.client_fault.ClientFault.{ClientFault};
+ghost use Rattle.pdc_session.specs.declared.unread.TheConstants.{PIECE_LEN};
+ghost use Rattle.pdc_frame.specs.declared.limits.TheConstants.{MAX_SIZE};
 
 use crate::client_fault::ClientFault;
 use crate::counting::Counting;
@@ -17,6 +20,7 @@ use crate::search::{MAX_READS, find_frame};
 use crate::telling::tell;
 use crate::unread::Unread;
 use pdc_frame::{Command, Framer, Kind, StreamId};
+use pdc_memory::copy_of;
 use std::alloc::{AllocError, Allocator, Global};
 use std::io::{Read, Write};
 
@@ -39,7 +43,7 @@ impl<S: Read + Write, A: Allocator> Pdc<S, A> {
     ///
     /// # Errors
     ///
-    /// [`AllocError`] where there is no memory for the longest frame and for a read. The reader and writer is let go then.
+    /// [`AllocError`] where a request for room for the longest frame, or for a read, was refused. The reader and writer is let go then.
     pub fn new(alloc: A, id: StreamId, stream: S) -> Result<Pdc<S, A>, AllocError>
     where
         S: Drop,
@@ -51,6 +55,7 @@ impl<S: Read + Write, A: Allocator> Pdc<S, A> {
         ensures ended { IfOk result (λ pdc. ended_in pdc ≡ None) }
         ensures reads { IfOk result (λ pdc. reads_in pdc ≡ 0) }
         ensures faults { IfOk result (λ pdc. faults_in pdc ≡ 0) }
+        ensures refused { OnErr result (WasRefused MAX_SIZE ⊎ WasRefused PIECE_LEN) }
     {
         Ok(Pdc {
             id,
@@ -145,6 +150,7 @@ impl<S: Read + Write, A: Allocator> Pdc<S, A> {
         ensures reads { reads_in self.new ≡ reads_in self.old }
         ensures faults { faults_in self.new ≡ faults_in self.old }
         ensures fault { OnErr result (IsErrOf result ClientFault.NoMemory) }
+        ensures refused { (n : ℕ) → OnErr copy (WasRefused n) → OnErr result (WasRefused n) }
     {
         match copy {
             Ok(bytes) => Ok(bytes),
@@ -160,18 +166,19 @@ impl<S: Read + Write, A: Allocator> Pdc<S, A> {
     /// # Errors
     ///
     /// `NoAnswer` where none came within [`MAX_FRAMES`](crate::MAX_FRAMES) frames and [`MAX_READS`] reads, or before
-    /// the end of the input; `BadStream` where the stream shows a fault; `Device` where a read failed; `NoMemory` where there is none
-    /// for the answer. Each ends the client: every later call answers it again.
+    /// the end of the input; `BadStream` where the stream shows a fault; `Device` where a read failed; `NoMemory` where a
+    /// request for the answer's bytes was refused. Each ends the client: every later call answers it again.
     pub fn get<B: Allocator>(&mut self, alloc: B) -> Result<Vec<u8, B>, ClientFault>
         ensures keeps { KeepsFaults self.old self.new result }
         ensures searches { ended_in self.old ≡ None → Searches (id_in self.old) DataFrame (held_in self.old) (unread_in self.old) (S.remaining (stream_in self.old)) (held_in self.new) (unread_in self.new) (S.remaining (stream_in self.new)) (reads_left_in self.new) result }
         ensures answer { IfOk result (λ bytes. bytes.items ≡ (held_in self.new).bytes) }
+        ensures refused { ended_in self.old ≡ None → IsErrOf result ClientFault.NoMemory → WasRefused (length (held_in self.new).bytes) }
         ensures few { reads_in self.new ≤ reads_in self.old + MAX_READS }
         ensures reads { ended_in self.old ≡ None → (reads_left_in self.new ≤ MAX_READS) × (reads_in self.new ≡ reads_after (MAX_READS - reads_left_in self.new) (reads_in self.old)) }
         ensures device { ended_in self.old ≡ None → faults_in self.new ≡ faults_after (is_device result) (faults_in self.old) }
     {
         self.find(Kind::DataFrame)?;
-        let copy = Vec::from_slice(alloc, self.framer.frame());
+        let copy = copy_of(alloc, self.framer.frame());
         self.keep_copy(copy)
     }
 
@@ -186,13 +193,14 @@ impl<S: Read + Write, A: Allocator> Pdc<S, A> {
             ⊎ ((asked : S) × Appends (S.contents (stream_in self.old)) (S.contents asked) (spelling_of (command_fields (id_in self.old) COMMAND_SOC Command.SendCfg2))
             × Searches (id_in self.old) Cfg2 (held_in self.old) (unread_in self.old) (S.remaining asked) (held_in self.new) (unread_in self.new) (S.remaining (stream_in self.new)) (reads_left_in self.new) result) }
         ensures answer { IfOk result (λ bytes. bytes.items ≡ (held_in self.new).bytes) }
+        ensures refused { ended_in self.old ≡ None → IsErrOf result ClientFault.NoMemory → WasRefused (length (held_in self.new).bytes) }
         ensures few { reads_in self.new ≤ reads_in self.old + MAX_READS }
         ensures reads { ended_in self.old ≡ None → IsErrOf result ClientFault.Device ⊎ ((reads_left_in self.new ≤ MAX_READS) × (reads_in self.new ≡ reads_after (MAX_READS - reads_left_in self.new) (reads_in self.old))) }
         ensures device { ended_in self.old ≡ None → faults_in self.new ≡ faults_after (is_device result) (faults_in self.old) }
     {
         self.order(Command::SendCfg2)?;
         self.find(Kind::Cfg2)?;
-        let copy = Vec::from_slice(alloc, self.framer.frame());
+        let copy = copy_of(alloc, self.framer.frame());
         self.keep_copy(copy)
     }
 
@@ -207,13 +215,14 @@ impl<S: Read + Write, A: Allocator> Pdc<S, A> {
             ⊎ ((asked : S) × Appends (S.contents (stream_in self.old)) (S.contents asked) (spelling_of (command_fields (id_in self.old) COMMAND_SOC Command.SendHeader))
             × Searches (id_in self.old) HeaderFrame (held_in self.old) (unread_in self.old) (S.remaining asked) (held_in self.new) (unread_in self.new) (S.remaining (stream_in self.new)) (reads_left_in self.new) result) }
         ensures answer { IfOk result (λ text. (f : Fields) × IsFrame (held_in self.new).bytes f × (text.items ≡ f.payload)) }
+        ensures refused { ended_in self.old ≡ None → IsErrOf result ClientFault.NoMemory → (f : Fields) × IsFrame (held_in self.new).bytes f × WasRefused (length f.payload) }
         ensures few { reads_in self.new ≤ reads_in self.old + MAX_READS }
         ensures reads { ended_in self.old ≡ None → IsErrOf result ClientFault.Device ⊎ ((reads_left_in self.new ≤ MAX_READS) × (reads_in self.new ≡ reads_after (MAX_READS - reads_left_in self.new) (reads_in self.old))) }
         ensures device { ended_in self.old ≡ None → faults_in self.new ≡ faults_after (is_device result) (faults_in self.old) }
     {
         self.order(Command::SendHeader)?;
         self.find(Kind::HeaderFrame)?;
-        let copy = Vec::from_slice(alloc, self.framer.fields().payload);
+        let copy = copy_of(alloc, self.framer.fields().payload);
         self.keep_copy(copy)
     }
 

@@ -6,7 +6,9 @@ ghost use Rattle.pdc_frame.specs.declared.step.Step.TheVariants.{More};
 ghost use Rattle.pdc_frame.specs.declared.command.Command.{Command};
 ghost use Rattle.pdc_frame.specs.declared.header.TheConstants.{MAX_TEXT};
 ghost use Rattle.pdc_session.specs.Served.{IsFed, IsNew};
-ghost use Rattle.pdc_session.specs.Session.{HasAnswered, HasRoom, LacksOne, Tells, told_after, reply_of};
+ghost use Rattle.pdc_frame.specs.declared.limits.TheConstants.{MAX_SIZE};
+ghost use Rattle.pdc_memory.specs.Asking.{WasRefused};
+ghost use Rattle.pdc_session.specs.Session.{HasAnswered, HasRoom, LacksOne, Tells, needed_of, told_after, reply_of};
 
 use crate::fault::SessionFault;
 use crate::serving::Serving;
@@ -46,6 +48,7 @@ fn obey<B: Buffer>(
     ensures err { OnErr result ((B.content out.new ≡ B.content out.old) × (B.capacity out.new ≡ B.capacity out.old)) }
     ensures room { length (B.content out.old) + length (reply_of id.value serving.now command) ≤ B.capacity out.old → IsOk result }
     ensures in_place { length (B.content out.old) + length (reply_of id.value serving.now command) ≤ B.capacity out.old → B.capacity out.new ≡ B.capacity out.old }
+    ensures refused { OnErr result (B.refused out.new (needed_of serving.now command)) }
 {
     match command {
         Some(Command::DataOff) => told.on = false,
@@ -78,7 +81,7 @@ fn hear<B: Buffer, A: Allocator>(
     ensures bad { IsErrOf result SessionFault.BadStream → IsBad framer.new.step
         × (n : ℕ) × (n ≤ length piece.now) × HasAnswered id.value serving.now (take n piece.now) framer.old told.old (B.content out.old) framer.new told.new (B.content out.new) }
     ensures memory { IsErrOf result SessionFault.NoMemory
-        → (n : ℕ) × (n ≤ length piece.now) × LacksOne id.value serving.now (take n piece.now) framer.old told.old (B.content out.old) framer.new told.new (B.content out.new) (B.capacity out.new) }
+        → (n : ℕ) × (n ≤ length piece.now) × LacksOne id.value serving.now (take n piece.now) framer.old told.old (B.content out.old) framer.new told.new (B.content out.new) (B.capacity out.new) (B.refused out.new) }
     ensures in_place { length (B.content out.new) ≤ B.capacity out.old → B.capacity out.new ≡ B.capacity out.old }
 {
     let mut at = 0;
@@ -128,10 +131,11 @@ impl<A: Allocator> Session<A> {
     ///
     /// # Errors
     ///
-    /// [`AllocError`] where there is no memory for the longest frame.
+    /// [`AllocError`] where a request for room for the longest frame was refused.
     pub fn new(alloc: A, id: StreamId) -> Result<Session<A>, AllocError>
         ensures id { IfOk result (λ session. session.id ≡ id.value) }
         ensures is_new { IfOk result (λ session. IsNew session) }
+        ensures refused { OnErr result (WasRefused MAX_SIZE) }
     {
         Ok(Session {
             id,
@@ -164,8 +168,8 @@ impl<A: Allocator> Session<A> {
     ///
     /// # Errors
     ///
-    /// `BadStream` where the stream shows a fault, `NoMemory` where `out` has no room for a reply and gets none. `out` has the replies
-    /// to the frames before. Either ends the session: each later call answers it again, and changes nothing.
+    /// `BadStream` where the stream shows a fault, `NoMemory` where `out` has no room for a reply and its request for it was refused. `out`
+    /// has the replies to the frames before. Either ends the session: each later call answers it again, and changes nothing.
     pub fn feed<B: Buffer>(
         &mut self,
         piece: &[u8],
@@ -184,7 +188,7 @@ impl<A: Allocator> Session<A> {
             × HasAnswered self.old.id serving.now (take n piece.now) self.old.held self.old.told (B.content out.old) self.new.held self.new.told (B.content out.new) }
         ensures memory { self.old.ended ≡ None → IsErrOf result SessionFault.NoMemory
             → (n : ℕ) × (n ≤ length piece.now)
-            × LacksOne self.old.id serving.now (take n piece.now) self.old.held self.old.told (B.content out.old) self.new.held self.new.told (B.content out.new) (B.capacity out.new) }
+            × LacksOne self.old.id serving.now (take n piece.now) self.old.held self.old.told (B.content out.old) self.new.held self.new.told (B.content out.new) (B.capacity out.new) (B.refused out.new) }
         // Where there was room for the replies, no memory is wanted,
         ensures room { self.old.ended ≡ None → HasRoom self.old.id serving.now piece.now self.old.held self.old.told (B.content out.old) (B.capacity out.old)
             → IsErrOf result SessionFault.NoMemory → ⊥ }

@@ -1,17 +1,35 @@
 //! Bytes that were read ahead.
 ghost use Rattle.std.specs.Prelude.{◌≡◌, ◌≤◌, ◌<◌, [], length, drop, IfOk, OnErr};
 ghost use Rattle.std.specs.Io.KnownBytes.{Consumes, IsAtEnd, Keeps};
+ghost use Rattle.pdc_memory.specs.Asking.{WasRefused};
 ghost use Rattle.pdc_session.specs.Counted.{faults_after, is_fault, reads_after};
 ghost use Rattle.pdc_session.specs.Counting.{faults_of, inner_of, reads_of};
 
 use crate::counting::Counting;
+use pdc_memory::with_room;
 use std::alloc::{AllocError, Allocator, Global};
 use std::io;
 use std::io::Read;
 use std::marker::Model;
 
 /// The most bytes of one read: a page.
-const PIECE_LEN: usize = 4096;
+pub(crate) const PIECE_LEN: usize = 4096;
+
+/// So many bytes for a reader to write to.
+///
+/// # Errors
+///
+/// [`AllocError`] where a request for so many bytes was refused.
+pub fn blank_piece<A: Allocator>(alloc: A, count: usize) -> Result<Vec<u8, A>, AllocError>
+    ensures len { IfOk result (λ piece. length piece.items ≡ count) }
+    ensures refused { OnErr result (WasRefused count) }
+{
+    let mut piece = with_room(alloc, count)?;
+    for _ in 0..count {
+        piece.push_reserved(0);
+    }
+    Ok(piece)
+}
 
 /// The bytes that were read and not taken yet.
 #[derive(Drop)]
@@ -36,12 +54,13 @@ impl<A: Allocator> Unread<A> {
     ///
     /// # Errors
     ///
-    /// [`AllocError`] where there is no memory for a read.
+    /// [`AllocError`] where a request for the bytes of a read was refused.
     pub fn new(alloc: A) -> Result<Unread<A>, AllocError>
-        ensures { IfOk result (λ unread. unread ≡ []) }
+        ensures none { IfOk result (λ unread. unread ≡ []) }
+        ensures refused { OnErr result (WasRefused PIECE_LEN) }
     {
         Ok(Unread {
-            piece: vec![in alloc; 0u8; PIECE_LEN]?,
+            piece: blank_piece(alloc, PIECE_LEN)?,
             begin: 0,
             end: 0,
         })

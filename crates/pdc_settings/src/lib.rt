@@ -10,12 +10,16 @@
 mod common;
 mod distinct;
 mod document;
+mod doubled;
 mod entries;
 mod fault;
 mod input;
+mod lacking;
 mod merger;
+mod mistake;
 mod network;
 mod node;
+mod numbers;
 mod read_inputs;
 mod read_merger;
 mod read_network;
@@ -23,9 +27,11 @@ mod read_node;
 mod service;
 
 pub use document::{is_of_merger, unknown_keys};
+pub use doubled::{Doubled, NumberKey};
 pub use fault::SettingsFault;
 pub use input::Input;
 pub use merger::MergerSettings;
+pub use mistake::{Mistake, doubled_port_in, mistake_in};
 pub use network::{MAX_OUTPUTS, Network};
 pub use node::NodeSettings;
 pub use pdc_keys::{MAX_PORT, MAX_TIME_BASE, TableName, UnknownKey, Wanted};

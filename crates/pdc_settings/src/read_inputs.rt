@@ -145,7 +145,7 @@ fn most_count_of(value: &Value) -> Result<Option<u16>, SettingsFault>
 }
 
 /// What the table of a stream says of how its frames come.
-fn read_input(alloc: Global, value: &Value) -> Result<Input, SettingsFault>
+pub(crate) fn read_input(alloc: Global, value: &Value) -> Result<Input, SettingsFault>
     ensures value { IfOk result (IsInput (view value.now)) }
     ensures fault { IfErr result (λ fault. IsNoInput fault (view value.now)) }
 {

@@ -27,8 +27,8 @@ use toml::{Table, Value};
 
 /// A node that the merger takes, with the port that it sends to.
 #[derive(Clone, Copy, Debug)]
-struct Taken {
-    node: MergedNode,
+pub(crate) struct Taken {
+    pub node: MergedNode,
     port: u16,
 }
 
@@ -89,7 +89,7 @@ fn read_nodes(table: &Table, rate: u16) -> Result<(Taken, Taken), Wanted>
 }
 
 /// Reads the source of a PMU at the key `pmu`.
-fn read_source(value: &Value) -> Result<u16, Wanted>
+pub(crate) fn read_source(value: &Value) -> Result<u16, Wanted>
     ensures value { IfOk result (λ source. source_at (view value.now) ≡ Some source) }
     ensures none { OnErr result (source_at (view value.now) ≡ None) }
     ensures low { IfOk result (λ source. 1 ≤ source) }
@@ -118,7 +118,9 @@ fn read_sources(values: &[Value]) -> Result<ArrayVec<u16, MAX_PMUS>, Wanted>
 }
 
 /// What the tables and keys of the merger's document say, each in its range.
-fn read_parts(table: &Table) -> Result<(Common, Taken, Taken, ArrayVec<u16, MAX_PMUS>), Wanted>
+pub(crate) fn read_parts(
+    table: &Table,
+) -> Result<(Common, Taken, Taken, ArrayVec<u16, MAX_PMUS>), Wanted>
     ensures whole { OnOk result (has_merger_keys (table_view table.now) ≡ true) }
     ensures lacks { OnErr result (has_merger_keys (table_view table.now) ≡ false) }
     ensures kind { IfOk result (λ parts. is_merger (table_view table.now) ≡ true) }

@@ -88,7 +88,7 @@ fn read_ports(values: &[Value]) -> Result<ArrayVec<u16, MAX_PMUS>, Wanted>
 }
 
 /// What the tables and keys of a node's document say, each in its range.
-fn read_parts(
+pub(crate) fn read_parts(
     table: &Table,
 ) -> Result<(Common, ArrayVec<Pmu, MAX_PMUS>, ArrayVec<u16, MAX_PMUS>), Wanted>
     ensures whole { OnOk result (has_node_keys (table_view table.now) ≡ true) }

@@ -3,7 +3,11 @@ ghost use Rattle.std.specs.Prelude.{◌≡◌, ◌⊎◌, IfOk, IsErrOf, OnErr};
 ghost use Rattle.pdc_mark.specs.Stored.{with_next_start};
 ghost use Rattle.pdc_startup.specs.Begun.{begun_mark};
 
+use crate::timed_mark::TimedMark;
 use pdc_mark::{COUNTS, Mark, MarkFault};
+use pdc_metrics::Stores;
+use std::rt::Clock;
+use std::sync::Wait;
 
 /// A mark whose next start number was stored: one life may begin with what it stores, and no other will have this start.
 #[derive(Drop)]
@@ -50,6 +54,19 @@ impl<M: Mark + Drop> Begun<M> {
         ensures { result ≡ (M.stored (begun_mark self.now)).counts }
     {
         self.mark.counts()
+    }
+
+    /// The same mark, whose stores are timed from here on.
+    pub fn timed<'a, R: Wait + Clock>(
+        self,
+        rt: &'a R,
+        stores: &'a Stores,
+    ) -> Begun<TimedMark<'a, M, R>>
+        ensures { (begun_mark result).inner ≡ begun_mark self }
+    {
+        Begun {
+            mark: TimedMark::new(rt, stores, self.mark),
+        }
     }
 
     /// The mark.

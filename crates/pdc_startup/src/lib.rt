@@ -21,6 +21,8 @@ mod plan;
 mod ports;
 mod recorded;
 mod signs;
+mod system_outputs;
+mod timed_mark;
 
 pub use begun::Begun;
 pub use concentrator::Concentrator;
@@ -39,3 +41,5 @@ pub use pdc_recording::Limits;
 pub use plan::{MAX_LIMIT, Plan, plan_of};
 pub use recorded::RecordFile;
 pub use signs::Signs;
+pub use system_outputs::SystemOutputs;
+pub use timed_mark::TimedMark;

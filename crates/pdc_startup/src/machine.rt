@@ -13,9 +13,10 @@ use crate::files::{begin_mark, merger_of, node_of, read_settings_text};
 use crate::observing::Observed;
 use crate::ports::{open_links, open_listener, open_metrics, open_outputs};
 use crate::recorded::open_record;
+use crate::system_outputs::SystemOutputs;
 use pdc_disk::FileDisk;
 use pdc_mark::{DiskMark, Mark};
-use pdc_network::{Link, Outputs, UdpOutputs};
+use pdc_network::{Link, Outputs};
 use pdc_recording::{Series, Shelf};
 use std::fs::File;
 use std::net::{Net, TcpListener, TcpStream};
@@ -163,7 +164,7 @@ pub struct ThisMachine;
 impl Machine for ThisMachine {
     type Mark = DiskMark<FileDisk>;
 
-    type Outputs = UdpOutputs;
+    type Outputs = SystemOutputs;
 
     ghost tried = { λ _ _ _. Unit {0} };
 
@@ -244,9 +245,12 @@ impl Machine for ThisMachine {
         &mut self,
         rt: &R,
         described: &Described,
-    ) -> Result<UdpOutputs, ServiceFault> {
+    ) -> Result<SystemOutputs, ServiceFault> {
         let port = described.concentrator.service_settings().out_port;
-        open_outputs(rt, rt.alloc(), &described.network, port)
+        match open_outputs(rt, rt.alloc(), &described.network, port) {
+            Ok(sockets) => Ok(SystemOutputs::new(sockets)),
+            Err(fault) => Err(fault),
+        }
     }
 
     fn open_listener<R: Net<Listener = TcpListener, Stream = TcpStream>>(

@@ -4,31 +4,36 @@ ghost use Rattle.std.specs.Prelude.{◌≡◌, IfSome, vec_len};
 use crate::concentrator::Concentrator;
 use crate::expecting::expected_of;
 use crate::signs::Signs;
+use arrayvec::ArrayVec;
 use pdc_journal::{
-    Compared, Followers, Hearing, Journal, LeftOut, Measured, ObservedSource, Of, Opening,
-    OutputTally, Tags, Tally, Watchers,
+    Compared, Followers, Hearing, Journal, LeftOut, MAX_SOURCES, Measured, ObservedSource, Of,
+    Opening, OutputTally, Tags, Tally, Watchers,
 };
-use pdc_metrics::Metered;
+use pdc_metrics::{Metered, MeteredRecord, Stores, StreamPort};
 use pdc_ports::Source;
-use pdc_recording::{RecordedSource, Recording};
+use pdc_recording::{RecordedSource, Recording, Written};
 use pdc_settings::{Network, TickWhen};
 use pdc_ticking::{HoldingSource, LastTick, Patience, Wake};
 use std::alloc::{AllocError, Global};
+use std::net::SocketAddr;
 use std::rt::Clock;
 use std::sync::Wait;
 
-/// What is watched of a run: the lines that it tells, the tally of each stream, in their order, and of each further destination, what its
-/// threads say, when it ticked last, by what it is woken, what the merger leaves out, how the run stands, where that is served, and what is recorded of it.
+/// What is watched of a run: the lines that it tells, the tally of each stream, in their order, the port of each that comes to one, the tally
+/// of each further destination, what its threads say, when it ticked last, by what it is woken, what the merger leaves out, how the run
+/// stands, where that is served, what the stores of its mark took, and what is recorded of it.
 #[derive(Drop)]
 pub struct Observed {
     pub journal: Journal,
     pub tallies: Vec<Tally>,
+    pub ports: Vec<StreamPort>,
     pub outputs: Vec<OutputTally>,
     pub signs: Signs,
     pub last_tick: LastTick,
     pub wake: Option<Wake>,
     pub left_out: Option<LeftOut>,
     pub measured: Option<Measured>,
+    pub stores: Stores,
     pub recording: Option<Recording>,
 }
 
@@ -58,14 +63,56 @@ fn outputs_of(alloc: Global, network: &Network) -> Result<Vec<OutputTally>, Allo
     Ok(outputs)
 }
 
+/// The port of each stream that comes to one, in their order: those over TCP have none.
+fn ports_of(
+    alloc: Global,
+    concentrator: &Concentrator,
+    network: &Network,
+    tallies: &[Tally],
+) -> Result<Vec<StreamPort>, AllocError> {
+    let mut ports = Vec::new(alloc);
+    for (number, tally) in tallies.iter().enumerate() {
+        let is_connected = match network.inputs.get(number) {
+            Some(input) => input.tcp.is_some(),
+            None => false,
+        };
+        if let (false, Some(expected)) = (is_connected, expected_of(concentrator, number)) {
+            ports.push(StreamPort {
+                of: tally.of,
+                at: SocketAddr::from((network.address, expected.port)),
+            })?;
+        }
+    }
+    Ok(ports)
+}
+
+/// The sources of the settings.
+fn sources_of(concentrator: &Concentrator) -> ArrayVec<u16, MAX_SOURCES> {
+    let mut sources = ArrayVec::new();
+    match concentrator {
+        Concentrator::Node(settings) => {
+            for pmu in settings.life.pmus.iter() {
+                let _full = sources.try_push(pmu.source);
+            }
+        }
+        Concentrator::Merger(settings) => {
+            for source in settings.life.sources.iter() {
+                let _full = sources.try_push(*source);
+            }
+        }
+    }
+    sources
+}
+
 /// How the run stands, where the counters are served.
 fn measured_of(concentrator: &Concentrator, network: &Network) -> Option<Measured> {
     let output = concentrator.output();
+    let tags = Tags {
+        rate: output.rate,
+        time_base: output.time_base,
+    };
     match network.metrics_port {
-        Some(_) => Some(Measured::new(Tags {
-            rate: output.rate,
-            time_base: output.time_base,
-        })),
+        Some(_) => Some(Measured::new(tags, &sources_of(concentrator))),
         None => None,
     }
 }
@@ -75,6 +122,15 @@ fn wake_of(concentrator: &Concentrator) -> Option<Wake> {
     match concentrator.service_settings().tick {
         TickWhen::Whole => Some(Wake::new()),
         TickWhen::Period => None,
+    }
+}
+
+/// What is metered of a record.
+fn metered_record(written: &Written) -> MeteredRecord<'_> {
+    MeteredRecord {
+        is_written: &written.is_written,
+        bytes: &written.bytes,
+        gaps: &written.gaps,
     }
 }
 
@@ -91,9 +147,12 @@ impl Observed {
         is_quiet: bool,
         is_recorded: bool,
     ) -> Result<Observed, AllocError> {
+        let tallies = tallies_of(alloc, concentrator)?;
+        let ports = ports_of(alloc, concentrator, network, &tallies)?;
         Ok(Observed {
             journal: Journal::new(alloc, is_quiet)?,
-            tallies: tallies_of(alloc, concentrator)?,
+            tallies,
+            ports,
             outputs: outputs_of(alloc, network)?,
             signs: Signs::new(),
             last_tick: LastTick::new(),
@@ -103,6 +162,7 @@ impl Observed {
                 Concentrator::Merger(settings) => Some(LeftOut::new(&settings.life.sources)),
             },
             measured: measured_of(concentrator, network),
+            stores: Stores::new(),
             recording: if is_recorded {
                 Some(Recording::new(alloc)?)
             } else {
@@ -124,12 +184,18 @@ impl Observed {
         match &self.measured {
             Some(measured) => Some(Metered {
                 tallies: self.tallies.as_slice(),
+                ports: self.ports.as_slice(),
                 outputs: self.outputs.as_slice(),
                 left_out: self.left_out.as_ref(),
                 measured,
                 unsent: &self.signs.unsent,
                 consumers: &self.signs.consumers,
                 late_ticks: &self.signs.late_ticks,
+                stores: &self.stores,
+                record: match &self.recording {
+                    Some(recording) => Some(metered_record(&recording.written)),
+                    None => None,
+                },
             }),
             None => None,
         }

@@ -113,9 +113,11 @@ impl Follower {
     /// Notes the number of a step, and the steps before it that are not in the record. One whose gap was told already may stand anywhere.
     fn count(&mut self, entry: &Entry<'_>) -> Result<(), AllocError> {
         let (until, next) = match &entry.what {
-            What::Arrived { .. } | What::Ticked { .. } | What::FoundNone | What::Popped { .. } => {
-                (entry.step, entry.step.saturating_add(1))
-            }
+            What::Arrived { .. }
+            | What::NoFrame { .. }
+            | What::Ticked { .. }
+            | What::FoundNone
+            | What::Popped { .. } => (entry.step, entry.step.saturating_add(1)),
             What::Missing { until } => (*until, *until),
             _ => return Ok(()),
         };
@@ -169,6 +171,18 @@ impl Follower {
                 stream: usize::from(*stream),
                 outcome: Some(*outcome),
                 datagram,
+            })?,
+            What::NoFrame {
+                stream,
+                outcome,
+                front,
+                ..
+            } => life.hear(&Heard {
+                step: entry.step,
+                time,
+                stream: usize::from(*stream),
+                outcome: Some(*outcome),
+                datagram: front,
             })?,
             What::Unanswered { stream, datagram } => life.hear(&Heard {
                 step: self.next,

@@ -4,7 +4,7 @@ use Rattle.std.specs.Fmt.{decimal, signed_decimal}
 use Rattle.pdc_values.specs.Scaled.{scaled_text}
 use Rattle.pdc_values.specs.Quantity.{signed_of, part_of, magnitude_of, frequency_of, analog_of}
 use Rattle.pdc_values.specs.declared.field.Field.{Field}
-use Rattle.pdc_values.specs.declared.field.Field.TheVariants.{Stat, StatWords, Frequency, Rocof, Magnitude, Angle, Real, Imaginary, Analog, Digital}
+use Rattle.pdc_values.specs.declared.field.Field.TheVariants.{Nothing, Stat, StatWords, Frequency, Rocof, Magnitude, Angle, Real, Imaginary, Analog, Digital}
 
 -- the word at a place of a block, 0 behind its end
 abbrev pub word_of : List ℕ → ℕ → ℕ
@@ -14,6 +14,7 @@ word_of words place = slice_index_or words place 0
 -- phasor in ten-thousandths of a radian, the frequency in thousandths of a hertz, its rate of change in hundredths of a hertz a second. None
 -- where it is computed, or in words.
 abbrev pub exact_text : Field → List ℕ → Option (List ℕ)
+exact_text Nothing words = None
 exact_text Stat words = Some (decimal (word_of words 0))
 exact_text StatWords words = None
 exact_text (Frequency place nominal) words = Some (scaled_text 1000 (frequency_of (word_of words place) nominal))

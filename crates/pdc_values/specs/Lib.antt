@@ -1,3 +1,4 @@
 pub mod Scaled
 pub mod Quantity
 pub mod Field
+pub mod Own

@@ -3,6 +3,7 @@ ghost use Rattle.std.specs.Prelude.{◌≡◌, ◌+◌, ◌-◌, ◌*◌, ◌<�
 ghost use Rattle.pdc_frame.specs.Bytes.{word_at, long_at};
 
 use crate::field::Field;
+use crate::own::is_own;
 use crate::phasor::Phasor;
 use crate::quantity::{analog_factor, phasor_factor};
 use pdc_cfg::{SectionView, Shape};
@@ -131,6 +132,20 @@ fn is_taken(channels: &[Channel], label: &str) -> bool {
         .any(|channel| channel.label.as_str() == label)
 }
 
+/// A label that no channel is called by yet: where one is, a `#` and the number of the channel among all stand behind, as often as it takes.
+/// Each time it grows, so no label is tried twice, and one more than there are channels are enough.
+fn free_label(alloc: Global, channels: &[Channel], label: String) -> Result<String, AllocError> {
+    let number = channels.len().saturating_add(1);
+    let mut free = label;
+    for _ in 0..channels.len() {
+        if !is_taken(channels, free.as_str()) {
+            return Ok(free);
+        }
+        free = format!(in alloc; "{free}#{number}")?;
+    }
+    Ok(free)
+}
+
 /// What the channel of this name is called: its name, or its kind and number where it has none. Where another channel before it is called so, a
 /// `#` and its number among all channels stand behind.
 fn label_of(
@@ -146,11 +161,7 @@ fn label_of(
     } else {
         name
     };
-    if is_taken(channels, label.as_str()) {
-        let place = channels.len().saturating_add(1);
-        return format!(in alloc; "{label}#{place}");
-    }
-    Ok(label)
+    free_label(alloc, channels, label)
 }
 
 /// The name of the channel with this number among phasors and analog values, counted from 0.
@@ -253,8 +264,14 @@ pub struct Fixed {
     pub rocof: Field,
 }
 
-/// The frequency and its rate of change, in a block of this section.
+/// The frequency and its rate of change, in a block of this section. The own block of a concentrator has neither: it measures nothing.
 pub fn fixed_of(section: &SectionView) -> Fixed {
+    if is_own(section) {
+        return Fixed {
+            frequency: Field::Nothing,
+            rocof: Field::Nothing,
+        };
+    }
     let place = 1 + 2 * section.shape.phasors;
     Fixed {
         frequency: Field::Frequency {

@@ -47,6 +47,8 @@ pub enum Field {
         /// What its word is multiplied by.
         factor: i32,
     },
+    /// Nothing, as where the frequency of a concentrator's own block stood: it is absent in each block.
+    Nothing,
     /// A digital word, as a number.
     Digital {
         /// Where it stands.
@@ -136,6 +138,11 @@ impl Field {
         !matches!(self, Field::Stat | Field::StatWords)
     }
 
+    /// Whether it is absent in each block.
+    pub fn is_nothing(&self) -> bool {
+        matches!(self, Field::Nothing)
+    }
+
     /// Appends it as text.
     ///
     /// # Errors
@@ -146,6 +153,7 @@ impl Field {
         ensures exact { (text : List ℕ) → exact_text self words.now ≡ Some text → OnOk result (out.new.items ≡ out.old.items ++ text) }
     {
         match self {
+            Field::Nothing => Ok(()),
             Field::Stat => append_count(u64::from(word(words, 0)), out),
             Field::StatWords => append_stat_words(word(words, 0), out),
             Field::Frequency { place, nominal } => {

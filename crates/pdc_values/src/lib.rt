@@ -8,6 +8,7 @@
 mod channel;
 mod field;
 mod moment;
+mod own;
 mod phasor;
 mod quantity;
 mod scaled;

@@ -87,7 +87,7 @@ impl Template {
         let (words, absent) = (block.words(), is_absent(block));
         for step in self.steps.iter() {
             out.extend_from_slice(step.text.as_slice())?;
-            if absent && step.field.is_value() {
+            if step.field.is_nothing() || (absent && step.field.is_value()) {
                 out.extend_from_slice(self.absent.as_bytes())?;
             } else {
                 step.field.append(words, out)?;

@@ -41,13 +41,13 @@ function statWords(stat) {
   return said.length ? said.join(', ') : 'good data, in sync';
 }
 
-const age = ms => Math.floor((data.nowMs - ms) / 1000) + ' s';
+const age = ms => Math.floor(ms / 1000) + ' s';
 
 // The state of a PMU's newest data, and what is to be said of it: that there is none, how old it is, or that STAT warns of its values.
 function doubt(pmu) {
   if (pmu.cameMs === null) return { state: 'none', said: 'no data yet' };
   const error = ERRORS[pmu.stat >> 14 & 3];
-  if (pmu.old) return { state: error ? 'unusable' : 'old', said: `${age(pmu.cameMs)} old${error ? ', ' + error : ''}` };
+  if (pmu.old) return { state: error ? 'unusable' : 'old', said: `${age(pmu.ageMs)} old${error ? ', ' + error : ''}` };
   return { state: error ? 'unusable' : 'good', said: error };
 }
 
@@ -85,9 +85,29 @@ function drawPublished({ publishedMedianMs: half, publishedP99Ms: most, afterDat
 
 // Which PMUs were absent of the merger's stream in the last second.
 function drawAbsent() {
-  const absent = data.pmus.filter(pmu => pmu.presence.some(row => row.stream === 'M' && !/[wg]/.test(row.cells.slice(-10))));
+  const absent = data.pmus.filter(pmu => !came(pmu, 'M'));
   return make('p', { class: 'absences', 'data-absent': absent.map(pmu => pmu.source).join(' ') },
     absent.length ? `absent: ${absent.length} of ${data.pmus.length}, ${absent.map(pmu => pmu.source + ' ' + pmu.name).join(', ')}` : `absent: none of ${data.pmus.length}`);
+}
+
+// Whether a stream had data of a PMU in the last second.
+const came = (pmu, name) => pmu.presence.some(row => row.stream === name && /[wg]/.test(row.cells.slice(-10)));
+
+// Which node had the data that the merger shows: of how many PMUs both had it in the last second, and of how many one of them alone. Where both had
+// it the merger sends the blocks of the node that its settings name first.
+function drawShares() {
+  const shown = data.pmus.filter(pmu => came(pmu, 'M'));
+  const count = (a, b) => shown.filter(pmu => came(pmu, 'A') === a && came(pmu, 'B') === b).length;
+  const [both, first, second] = [count(true, true), count(true, false), count(false, true)];
+  return make('p', { class: 'shares', 'data-both': both, 'data-first': first, 'data-second': second },
+    `blocks: ${both} from both nodes, ${first} from A alone, ${second} from B alone`);
+}
+
+// How long the concentrator of a stream waits for data that is missing, by its settings.
+function drawWait({ wait, waitKind }) {
+  const some = (count, what) => `${count} ${what}${count === 1 ? '' : 's'}`;
+  return make('p', { class: 'wait', 'data-wait': wait, 'data-kind': waitKind },
+    waitKind === 'Absolute' ? `waits: ${some(wait, 'instant')} behind the instant` : `waits: ${some(wait, 'tick')} behind the first data`);
 }
 
 // The box of a node or of the merger.
@@ -95,14 +115,14 @@ function drawBox(stream) {
   const box = at('box-' + stream.name);
   const seen = stream.frames > 0;
   box.dataset.state = stream.alive ? 'alive' : 'dead';
-  const rows = [[stream.alive ? 'since' : seen ? 'last heard' : 'waiting since', second(stream.sinceMs) + (seen && !stream.alive ? `, ${age(stream.sinceMs)} old` : '')], ['rate', stream.framesASecond + ' frames/s'],
+  const rows = [[stream.alive ? 'since' : seen ? 'last heard' : 'waiting since', second(stream.sinceMs) + (seen && !stream.alive ? `, ${age(stream.ageMs)} old` : '')], ['rate', stream.framesASecond + ' frames/s'],
     ['start', seen ? stream.start : '–'], ['last instant', stream.lastMs === null ? '–' : utc(stream.lastMs)],
     ['change', seen ? stream.change : '–'], ['behind', stream.behindMs === null ? '–' : stream.behindMs + ' ms']];
   put('box-' + stream.name,
     make('h2', {}, make('span', {}, (stream.name === 'M' ? 'Merger M ' : 'Node ' + stream.name + ' '), make('small', {}, stream.address)),
       make('span', { class: 'state' }, stream.alive ? '● alive' : seen ? '✕ not alive' : '✕ not seen')),
     make('dl', {}, ...rows.flatMap(([name, value]) => [make('dt', {}, name), make('dd', { 'data-of': name }, String(value))])),
-    drawDelays(stream), ...drawPublished(stream), ...(stream.name === 'M' ? [drawAbsent()] : []),
+    drawDelays(stream), ...drawPublished(stream), ...(stream.name === 'M' ? [drawWait(stream), drawShares(), drawAbsent()] : []),
     ...(stream.connected ? [] : [make('p', { class: 'keys' }, 'no connection, tried again each second')]));
 }
 

@@ -13,9 +13,9 @@ pub fn patience(rate: u32) -> u64
     }
 }
 
-/// Whether what came then, in ms since 1970, is old now.
-pub fn is_old(came_ms: u64, now_ms: u64, rate: u32) -> bool
-    ensures { IsTrue result ↔ IsOld came_ms now_ms rate }
+/// Whether what came then is old now, both in ms by a clock that is never set.
+pub fn is_old(came: u64, now: u64, rate: u32) -> bool
+    ensures { IsTrue result ↔ IsOld came now rate }
 {
-    now_ms.saturating_sub(came_ms) >= patience(rate)
+    now.saturating_sub(came) >= patience(rate)
 }

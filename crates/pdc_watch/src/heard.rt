@@ -1,9 +1,12 @@
 //! What was heard on a stream.
+ghost use Rattle.std.specs.Prelude.{◌<◌, ◌↔◌, IsTrue};
+ghost use Rattle.pdc_watch.specs.Age.{IsOld};
 
 use crate::age::is_old;
 use crate::cell::MAX_RATE;
 use crate::delays::Delays;
 use crate::metered::Metered;
+use crate::now::Now;
 use crate::pmu::Moment;
 use crate::presence::Presence;
 use crate::station::Station;
@@ -22,10 +25,12 @@ pub struct Heard {
     pub time_base: u32,
     /// When the last data frame came, in ms since 1970; 0 where none did.
     pub came_ms: u64,
+    /// When it came by the clock that is never set, in ms.
+    pub came_steady_ms: u64,
     /// Since when frames came without a pause, in ms since 1970.
     pub since_ms: u64,
-    /// How many data frames came in the last tenths of seconds.
-    pub arrivals: Presence,
+    /// How many data frames have their instants in each of the last tenths of seconds.
+    pub instants: Presence,
     /// How far behind their instants they came.
     pub delays: Delays,
     /// How late it published, by its own counters.
@@ -42,7 +47,7 @@ pub struct Heard {
 }
 
 /// The instant of a frame that came then, under its TIME_BASE.
-fn moment_of(frame: &Frame, time_base: u32, rate: u32, came_ms: u64) -> Option<Moment> {
+fn moment_of(frame: &Frame, time_base: u32, rate: u32, came: Now) -> Option<Moment> {
     if rate == 0 || rate > MAX_RATE || time_base >= COUNT_LIMIT {
         return None;
     }
@@ -50,7 +55,7 @@ fn moment_of(frame: &Frame, time_base: u32, rate: u32, came_ms: u64) -> Option<M
     Some(Moment {
         instant,
         ms: instant.saturating_mul(1000).checked_div(u64::from(rate))?,
-        came_ms,
+        came,
     })
 }
 
@@ -92,14 +97,15 @@ impl Heard {
     /// # Errors
     ///
     /// [`AllocError`] where there is no memory for it.
-    pub fn new(alloc: Global, now_ms: u64) -> Result<Heard, AllocError> {
+    pub fn new(alloc: Global, now: Now) -> Result<Heard, AllocError> {
         Ok(Heard {
             connected: false,
             stations: Vec::new(alloc),
             time_base: 0,
             came_ms: 0,
-            since_ms: now_ms,
-            arrivals: Presence::new(alloc)?,
+            came_steady_ms: 0,
+            since_ms: now.utc_ms,
+            instants: Presence::new(alloc)?,
             delays: Delays::new(alloc)?,
             metered: Metered::new(alloc),
             frames: 0,
@@ -111,41 +117,54 @@ impl Heard {
     }
 
     /// Whether it lives: a data frame came, and the last one is not old.
-    pub fn is_alive(&self, rate: u32, now_ms: u64) -> bool {
-        self.came_ms > 0 && !is_old(self.came_ms, now_ms, rate)
+    pub fn is_alive(&self, rate: u32, now: Now) -> bool
+        ensures { IsTrue result ↔ (0 < self.now.frames) × (IsOld self.now.came_steady_ms now.steady_ms rate → ⊥) }
+    {
+        self.frames > 0 && !is_old(self.came_steady_ms, now.steady_ms, rate)
     }
 
     /// A data frame came.
-    pub fn note(&mut self, rate: u32, now_ms: u64) {
-        if !self.is_alive(rate, now_ms) {
-            self.since_ms = now_ms;
+    pub fn note(&mut self, rate: u32, now: Now) {
+        if !self.is_alive(rate, now) {
+            self.since_ms = now.utc_ms;
         }
-        self.came_ms = now_ms;
+        self.came_ms = now.utc_ms;
+        self.came_steady_ms = now.steady_ms;
         self.frames = self.frames.saturating_add(1);
-        self.arrivals.note(now_ms / 100, 0);
     }
 
     /// Since when it is as it is, alive or not, in ms since 1970.
-    pub fn since(&self, rate: u32, now_ms: u64) -> u64 {
-        if self.came_ms == 0 || self.is_alive(rate, now_ms) {
+    pub fn since(&self, rate: u32, now: Now) -> u64 {
+        if self.frames == 0 || self.is_alive(rate, now) {
             self.since_ms
         } else {
             self.came_ms
         }
     }
 
-    /// How many data frames came in the last whole second.
-    pub fn frames_a_second(&self, now_ms: u64) -> u32 {
-        let end = now_ms / 100;
+    /// For how long no data frame came, in ms; nothing where none ever did.
+    pub fn age(&self, now: Now) -> Option<u64> {
+        if self.frames == 0 {
+            return None;
+        }
+        Some(now.steady_ms.saturating_sub(self.came_steady_ms))
+    }
+
+    /// How many data frames have their instants in the second before that of the last one; 0 where the stream does not live.
+    pub fn frames_a_second(&self, rate: u32, now: Now) -> u32 {
+        if !self.is_alive(rate, now) {
+            return 0;
+        }
+        let begin = (self.last_ms / 1000).saturating_sub(1).saturating_mul(10);
         let mut count = 0u32;
-        for tenth in end.saturating_sub(10)..end {
-            count = count.saturating_add(u32::from(self.arrivals.came(tenth)));
+        for tenth in begin..begin.saturating_add(10) {
+            count = count.saturating_add(u32::from(self.instants.came(tenth)));
         }
         count
     }
 
     /// The instant of a data frame that fits the configuration: by its length, by its time tag, and by the change that its own block tells.
-    pub fn moment(&mut self, frame: &Frame, rate: u32) -> Option<Moment> {
+    pub fn moment(&mut self, frame: &Frame, rate: u32, now: Now) -> Option<Moment> {
         let stations = self.stations.as_slice();
         if payload_len(stations) != frame.payload.len() {
             return None;
@@ -155,10 +174,11 @@ impl Heard {
         if stamp.change % 65536 != u32::from(own.count) {
             return None;
         }
-        let moment = moment_of(frame, self.time_base, rate, self.came_ms)?;
+        let moment = moment_of(frame, self.time_base, rate, now)?;
         self.start = stamp.start;
         self.change = stamp.change;
         self.last_ms = moment.ms;
+        self.instants.note(moment.ms / 100, 0);
         self.delays.note(self.came_ms.saturating_sub(moment.ms));
         Some(moment)
     }

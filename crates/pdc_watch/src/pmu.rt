@@ -1,5 +1,6 @@
 //! What is known of a PMU.
 
+use crate::now::Now;
 use crate::presence::Presence;
 use crate::strip::{Point, Strip};
 use crate::who::{Three, Who};
@@ -14,7 +15,7 @@ pub struct Moment {
     /// When it was, in ms since 1970.
     pub ms: u64,
     /// When the frame came.
-    pub came_ms: u64,
+    pub came: Now,
 }
 
 /// What is known of a PMU: what came of it on each stream, and its newest data.
@@ -29,8 +30,8 @@ pub struct Pmu {
     /// The instant of its newest data, and when that was, in ms since 1970; 0 where none came.
     pub instant: u64,
     pub ms: u64,
-    /// When the first frame with it came; 0 where none did.
-    pub came_ms: u64,
+    /// When the first frame with it came.
+    pub came: Option<Now>,
     /// Its words.
     pub words: Vec<u16>,
 }
@@ -52,7 +53,7 @@ impl Pmu {
             strip: Strip::new(alloc)?,
             instant: 0,
             ms: 0,
-            came_ms: 0,
+            came: None,
             words: Vec::new(alloc),
         })
     }
@@ -72,7 +73,7 @@ impl Pmu {
         if moment.instant > self.instant {
             self.instant = moment.instant;
             self.ms = moment.ms;
-            self.came_ms = moment.came_ms;
+            self.came = Some(moment.came);
             self.words.clear();
             self.words.extend_from_slice(words)?;
             self.keep_point(block);

@@ -1,5 +1,5 @@
 //! What the words of a block stand for.
-ghost use Rattle.std.specs.Prelude.{◌≡◌, ◌*◌, ◌≤◌, ◌%◌, ◌^◌, ◌/◌, ◌*ℤ◌, pos, nat_eq};
+ghost use Rattle.std.specs.Prelude.{◌≡◌, ◌*◌, ◌≤◌, ◌%◌, ◌^◌, ◌/◌, ◌*ℤ◌, pos, nat_eq, not};
 ghost use Rattle.pdc_watch.specs.declared.scaling.TheConstants.{MAX_SCALE};
 
 /// The greatest scale of a phasor, which has 24 bits.
@@ -13,11 +13,12 @@ pub fn scale_of(unit: u32) -> u32
     unit % 0x0100_0000
 }
 
-/// Whether PHUNIT tells of a current: its high byte is 1, and 0 of a voltage.
+/// Whether PHUNIT tells of a current: its high byte is 0 of a voltage, and 1 of a current. Any other is taken for a current, as where frames are
+/// printed as JSON and CSV.
 pub fn is_current(unit: u32) -> bool
-    ensures { result ≡ nat_eq (unit / 2 ^ 24) 1 }
+    ensures { result ≡ not (nat_eq (unit / 2 ^ 24) 0) }
 {
-    unit / 0x0100_0000 == 1
+    unit / 0x0100_0000 != 0
 }
 
 /// A magnitude, in hundred-thousandths of a volt or an ampere.

@@ -4,6 +4,8 @@ ghost use Rattle.pdc_watch.specs.declared.cell.TheConstants.{MAX_RATE};
 
 use crate::age::is_old;
 use crate::heard::Heard;
+use crate::now::Now;
+use crate::origin::Origin;
 use crate::phasors::{analogs_of, digitals_of, phasors_of};
 use crate::pmu::Pmu;
 use crate::presences::{CELLS, rows_of};
@@ -37,6 +39,20 @@ fn known(ms: u64) -> Option<u64> {
     if ms > 0 { Some(ms) } else { None }
 }
 
+/// How long ago that was, in ms.
+fn age_of(came: Option<Now>, now: Now) -> Option<u64> {
+    let came = came?;
+    Some(now.steady_ms.saturating_sub(came.steady_ms))
+}
+
+/// Whether what came then is old now; what never came is not.
+fn is_old_since(came: Option<Now>, now: Now, rate: u32) -> bool {
+    match came {
+        Some(came) => is_old(came.steady_ms, now.steady_ms, rate),
+        None => false,
+    }
+}
+
 /// The strips of a PMU that end with this fifth of a second: frequency and its change.
 fn strips_of(
     alloc: Global,
@@ -61,7 +77,7 @@ fn pmu_shown<'a>(
     station: &'a Station,
     rate: u32,
     last: u64,
-    now_ms: u64,
+    now: Now,
 ) -> Result<ShownPmu<'a>, AllocError>
     requires { rate ≤ MAX_RATE }
 {
@@ -78,8 +94,9 @@ fn pmu_shown<'a>(
         name: station.name.as_str(),
         nominal_hz: nominal,
         last_ms: known(pmu.ms),
-        came_ms: known(pmu.came_ms),
-        old: pmu.came_ms > 0 && is_old(pmu.came_ms, now_ms, rate),
+        came_ms: pmu.came.map(|came| came.utc_ms),
+        age_ms: age_of(pmu.came, now),
+        old: is_old_since(pmu.came, now, rate),
         stat: words.first().copied(),
         frequency_hz: signed_at(words, freq).map(|deviation| f64::from(nominal)
             + f64::from(deviation) / MILLI),
@@ -126,39 +143,39 @@ fn pmus_shown(
     alloc: Global,
     watch: &Watch,
     last: u64,
-    now_ms: u64,
+    now: Now,
 ) -> Result<Vec<ShownPmu<'_>>, AllocError> {
     let mut pmus = Vec::new(alloc);
     for pmu in watch.pmus.as_slice() {
         if let Some(station) = station_of(&watch.heard, pmu.source) {
-            pmus.push(pmu_shown(alloc, pmu, station, watch.rate, last, now_ms)?)?;
+            pmus.push(pmu_shown(alloc, pmu, station, watch.rate, last, now)?)?;
         }
     }
     Ok(pmus)
 }
 
-/// What is shown now of a pair whose streams come from these addresses.
+/// What is shown now of a pair whose streams come from there.
 fn shown_of<'a>(
     alloc: Global,
     watch: &'a Watch,
-    addresses: &'a Three<String>,
-    now_ms: u64,
+    origins: &'a Three<Origin>,
+    now: Now,
 ) -> Result<Shown<'a>, AllocError> {
     let rate = watch.rate;
-    let last = last_tenth(watch.newest_ms, now_ms);
+    let last = last_tenth(watch.newest_ms, now.utc_ms);
     let heard = &watch.heard;
     let mut streams = Vec::new(alloc);
-    streams.push(stream_shown(alloc, &heard.a, "A", addresses.a.as_str(), rate, now_ms)?)?;
-    streams.push(stream_shown(alloc, &heard.b, "B", addresses.b.as_str(), rate, now_ms)?)?;
-    streams.push(stream_shown(alloc, &heard.m, "M", addresses.m.as_str(), rate, now_ms)?)?;
+    streams.push(stream_shown(alloc, &heard.a, "A", &origins.a, rate, now)?)?;
+    streams.push(stream_shown(alloc, &heard.b, "B", &origins.b, rate, now)?)?;
+    streams.push(stream_shown(alloc, &heard.m, "M", &origins.m, rate, now)?)?;
     let agreement = watch.agreement;
     Ok(Shown {
-        now_ms,
+        now_ms: now.utc_ms,
         begun_ms: watch.begun_ms,
         rate,
         until_ms: last.saturating_add(1).saturating_mul(100),
         streams,
-        pmus: pmus_shown(alloc, watch, last, now_ms)?,
+        pmus: pmus_shown(alloc, watch, last, now)?,
         agreement: ShownAgreement {
             instants: agreement.equal.saturating_add(agreement.different),
             equal: agreement.equal,
@@ -167,7 +184,7 @@ fn shown_of<'a>(
     })
 }
 
-/// What is shown now of a pair whose streams come from these addresses, as `/data.json` says it.
+/// What is shown now of a pair whose streams come from there, as `/data.json` says it.
 ///
 /// # Errors
 ///
@@ -175,9 +192,9 @@ fn shown_of<'a>(
 pub fn json_of(
     alloc: Global,
     watch: &Watch,
-    addresses: &Three<String>,
-    now_ms: u64,
+    origins: &Three<Origin>,
+    now: Now,
 ) -> Result<Vec<u8>, Error> {
-    let shown = shown_of(alloc, watch, addresses, now_ms)?;
+    let shown = shown_of(alloc, watch, origins, now)?;
     serde_json::to_vec(alloc, &shown)
 }

@@ -2,6 +2,8 @@
 
 use crate::delays::percentile;
 use crate::heard::Heard;
+use crate::now::Now;
+use crate::origin::Origin;
 use crate::shown::ShownStream;
 use crate::within::{Lateness, bound_ms};
 use std::alloc::{AllocError, Global};
@@ -29,19 +31,22 @@ pub fn stream_shown<'a>(
     alloc: Global,
     heard: &Heard,
     name: &'static str,
-    address: &'a str,
+    origin: &'a Origin,
     rate: u32,
-    now_ms: u64,
+    now: Now,
 ) -> Result<ShownStream<'a>, AllocError> {
     let told = heard.last_ms > 0;
     let delays = heard.delays.sorted(alloc)?;
     let metered = heard.metered.last_minute();
     Ok(ShownStream {
         name,
-        address,
+        address: origin.address.as_str(),
+        wait: origin.wait,
+        wait_kind: origin.wait_kind.as_str(),
         connected: heard.connected,
-        alive: heard.is_alive(rate, now_ms),
-        since_ms: heard.since(rate, now_ms),
+        alive: heard.is_alive(rate, now),
+        since_ms: heard.since(rate, now),
+        age_ms: heard.age(now),
         start: heard.start,
         change: heard.change,
         last_ms: if told { Some(heard.last_ms) } else { None },
@@ -52,7 +57,7 @@ pub fn stream_shown<'a>(
         published_p99_ms: within(metered, false, 99),
         after_data_median_ms: within(metered, true, 50),
         after_data_p99_ms: within(metered, true, 99),
-        frames_a_second: heard.frames_a_second(now_ms),
+        frames_a_second: heard.frames_a_second(rate, now),
         frames: heard.frames,
         unread: heard.unread,
     })

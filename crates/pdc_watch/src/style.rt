@@ -37,14 +37,14 @@ section, .box { background: var(--face); border: 1px solid var(--line); border-r
 #pmus { display: grid; grid-template-columns: repeat(auto-fill, minmax(8.5rem, 1fr)); gap: 0 .6rem; }
 .late { color: var(--bad); }
 #doubt { color: var(--bad); }
-.box[data-state="dead"] dl, .box[data-state="dead"] .delays, .box[data-state="dead"] .published, #polar[data-state="old"], #polar[data-state="unusable"],
+.box[data-state="dead"] dl, .box[data-state="dead"] .delays, .box[data-state="dead"] .published, .box[data-state="dead"] .shares, #polar[data-state="old"], #polar[data-state="unusable"],
 body[data-state="lost"] main { opacity: .55; }
 #polar[data-state="unusable"] tbody td + td { text-decoration: line-through; }
 dl { display: grid; grid-template-columns: auto 1fr auto 1fr; gap: 0 .5rem; margin: 0; font-size: .85rem; }
 dt { color: var(--soft); }
 dd { margin: 0; white-space: nowrap; }
 .box .delays { display: flex; flex-wrap: wrap; gap: 0 .6rem; align-items: center; font-size: .85rem; color: var(--soft); }
-.box .published, .box .absences { font-size: .85rem; color: var(--soft); }
+.box .published, .box .absences, .box .shares, .box .wait { font-size: .85rem; color: var(--soft); }
 .delays svg { flex: 1; min-width: 5rem; height: .35rem; }
 .track { fill: var(--none); }
 .most { fill: var(--warn); }

@@ -7,6 +7,7 @@ ghost use Rattle.pdc_watch.specs.declared.cell.TheConstants.{MAX_RATE};
 use crate::agreement::Agreement;
 use crate::cell::MAX_RATE;
 use crate::heard::Heard;
+use crate::now::Now;
 use crate::pmu::{Moment, Pmu};
 use crate::present::PresentBlock;
 use crate::published::{Published, PublishedFrame};
@@ -116,16 +117,16 @@ impl Watch {
     /// # Errors
     ///
     /// [`AllocError`] where there is no memory for it.
-    pub fn new(alloc: Global, rate: u32, now_ms: u64) -> Result<Watch, AllocError>
+    pub fn new(alloc: Global, rate: u32, now: Now) -> Result<Watch, AllocError>
         requires { rate ≤ MAX_RATE }
     {
         Ok(Watch {
             rate,
-            begun_ms: now_ms,
+            begun_ms: now.utc_ms,
             heard: Three {
-                a: Heard::new(alloc, now_ms)?,
-                b: Heard::new(alloc, now_ms)?,
-                m: Heard::new(alloc, now_ms)?,
+                a: Heard::new(alloc, now)?,
+                b: Heard::new(alloc, now)?,
+                m: Heard::new(alloc, now)?,
             },
             pmus: Vec::new(alloc),
             newest_ms: 0,
@@ -196,12 +197,12 @@ impl Watch {
         alloc: Global,
         who: Who,
         frame: &Frame,
-        now_ms: u64,
+        now: Now,
     ) -> Result<bool, AllocError> {
         let rate = self.rate;
         let heard = self.heard.of_mut(who);
-        heard.note(rate, now_ms);
-        let Some(moment) = heard.moment(frame, rate) else {
+        heard.note(rate, now);
+        let Some(moment) = heard.moment(frame, rate, now) else {
             heard.unread = heard.unread.saturating_add(1);
             return Ok(false);
         };
@@ -235,10 +236,10 @@ impl Watch {
         alloc: Global,
         who: Who,
         frame: &Frame,
-        now_ms: u64,
+        now: Now,
     ) -> Result<bool, AllocError> {
         match frame.kind {
-            Kind::DataFrame => self.take_data(alloc, who, frame, now_ms),
+            Kind::DataFrame => self.take_data(alloc, who, frame, now),
             Kind::Cfg2 => {
                 if let Ok(config) = read_config(frame) {
                     self.take_config(alloc, who, &config)?;

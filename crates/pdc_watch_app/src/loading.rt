@@ -4,7 +4,8 @@ ghost use Rattle.pdc_watch.specs.declared.cell.TheConstants.{MAX_RATE};
 
 use crate::words::Asked;
 use pdc_frame::StreamId;
-use pdc_settings::{MergerSettings, Network, NodeSettings, SettingsFault};
+use pdc_life::Timing;
+use pdc_settings::{MergerSettings, Mistake, Network, NodeSettings, SettingsFault, mistake_in};
 use pdc_watch::{MAX_RATE, Three};
 use std::alloc::Global;
 use std::fs::File;
@@ -23,6 +24,8 @@ pub struct Session {
     pub to: SocketAddr,
     /// The port of the counters, where they are served on this machine.
     pub metrics: Option<u16>,
+    /// How long its instants are held.
+    pub timing: Timing,
     pub ghost rate_high: { rate ≤ MAX_RATE },
 }
 
@@ -75,6 +78,7 @@ fn node_session(alloc: Global, text: &str) -> Result<Session, SettingsFault> {
         rate: settings.life.output.rate,
         to,
         metrics: metrics_of(to, network.metrics_port),
+        timing: settings.life.timing,
     })
 }
 
@@ -88,6 +92,7 @@ fn merger_session(alloc: Global, text: &str) -> Result<Session, SettingsFault> {
         rate: settings.life.output.rate,
         to,
         metrics: metrics_of(to, network.metrics_port),
+        timing: settings.life.timing,
     })
 }
 
@@ -164,14 +169,30 @@ pub fn load<'a, R: Files<File = File> + AllocGlobal>(
     })
 }
 
-/// Prints the file with the reason to standard error: the key where there is one.
-pub fn report_load(rt: &impl Eprint, file: &str, fault: &LoadFault) -> io::Result<()> {
+/// What is wrong in a file that was refused for this fault. It is read once more for that.
+fn mistake_of<R: Files<File = File> + AllocGlobal>(
+    rt: &R,
+    file: &str,
+    fault: SettingsFault,
+) -> Mistake {
+    match text_of(rt, file) {
+        Ok(text) if !text.is_empty() => mistake_in(rt.alloc(), &text, fault),
+        _ => Mistake::Fault(fault),
+    }
+}
+
+/// Prints the file with the reason to standard error: the line, or the key with its table.
+pub fn report_load<R: Files<File = File> + AllocGlobal + Eprint>(
+    rt: &R,
+    file: &str,
+    fault: &LoadFault,
+) -> io::Result<()> {
     match fault {
         LoadFault::Unread(error) => eprintln!(rt; "pdc watch: {file}: {error}"),
-        LoadFault::Refused(SettingsFault::Range(wanted)) => {
-            eprintln!(rt; "pdc watch: {file}: {wanted}")
+        LoadFault::Refused(fault) => {
+            let mistake = mistake_of(rt, file, *fault);
+            eprintln!(rt; "pdc watch: {file}: {mistake}")
         }
-        LoadFault::Refused(fault) => eprintln!(rt; "pdc watch: {file}: {fault}"),
         LoadFault::OtherRate => {
             eprintln!(rt; "pdc watch: {file}: its rate is not that of node A")
         }

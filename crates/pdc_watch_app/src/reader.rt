@@ -5,14 +5,14 @@ ghost use Rattle.pdc_frame.specs.declared.step.Step.TheVariants.{Whole};
 use crate::loading::Session;
 use pdc_frame::{Command, Framer, Step};
 use pdc_session::{Counting, Unread, tell};
-use pdc_watch::{Watch, Who};
+use pdc_watch::{Now, Watch, Who};
 use std::alloc::Global;
 use std::io::ErrorKind;
 use std::net::{Net, SocketAddr, TcpListener, TcpStream};
 use std::rt::Clock;
 use std::sync::atomic::{AtomicBool, Ordering};
 use std::sync::{Mutex, Wait};
-use std::time::{Duration, SystemTime};
+use std::time::{Duration, Instant, SystemTime};
 use std::{io, thread};
 
 /// How long a read waits, in milliseconds.
@@ -31,7 +31,7 @@ const SILENCE: u64 = 5000;
 const PATIENCE: u64 = 1000;
 
 /// Milliseconds since 1970; 0 where the clock cannot be read.
-pub fn now_ms(clock: &impl Clock) -> u64 {
+fn utc_ms(clock: &impl Clock) -> u64 {
     let Ok(now) = SystemTime::now(clock) else {
         return 0;
     };
@@ -39,6 +39,25 @@ pub fn now_ms(clock: &impl Clock) -> u64 {
         return 0;
     };
     u64::try_from(since.as_millis()).unwrap_or(0)
+}
+
+/// Milliseconds since the program began, by a clock that is never set; 0 where it cannot be read.
+fn steady_ms(clock: &impl Clock, begun: Option<Instant>) -> u64 {
+    let Some(begun) = begun else {
+        return 0;
+    };
+    match begun.elapsed(clock) {
+        Ok(since) => u64::try_from(since.as_millis()).unwrap_or(u64::MAX),
+        Err(_) => 0,
+    }
+}
+
+/// The time that it is in a program that began then, by both clocks.
+pub fn now_of(clock: &impl Clock, begun: Option<Instant>) -> Now {
+    Now {
+        utc_ms: utc_ms(clock),
+        steady_ms: steady_ms(clock, begun),
+    }
 }
 
 /// Connects to this address.
@@ -89,6 +108,8 @@ pub struct Reader<'a, R: Net<Listener = TcpListener, Stream = TcpStream> + Clock
     pub session: Session,
     pub watch: &'a Mutex<Watch>,
     pub ending: &'a AtomicBool,
+    /// When the program began.
+    pub begun: Option<Instant>,
 }
 
 /// Reads once, where no byte is left.
@@ -125,6 +146,11 @@ impl<'a, R: Net<Listener = TcpListener, Stream = TcpStream> + Clock + Wait> Read
         })
     }
 
+    /// The milliseconds since the program began.
+    fn now(&self) -> u64 {
+        steady_ms(self.rt, self.begun)
+    }
+
     /// Gives the frame that is whole to what is known of the pair.
     fn give(&self, framer: &Framer) -> Turn
         requires { framer.now.step ≡ Whole }
@@ -133,7 +159,7 @@ impl<'a, R: Net<Listener = TcpListener, Stream = TcpStream> + Clock + Wait> Read
         if frame.id.value != self.session.id.value {
             return Turn::Bytes;
         }
-        let now = now_ms(self.rt);
+        let now = now_of(self.rt, self.begun);
         let mut watch = self.watch.lock(self.rt);
         match watch.take(self.alloc, self.who, &frame, now) {
             Ok(true) => Turn::Bytes,
@@ -159,14 +185,14 @@ impl<'a, R: Net<Listener = TcpListener, Stream = TcpStream> + Clock + Wait> Read
 
     /// Reads until no more comes, or all is to end.
     fn follow(&self, reading: &mut Reading) {
-        let mut heard = now_ms(self.rt);
+        let mut heard = self.now();
         let mut asked = heard;
         for _ in self.rt.forever() {
             if self.ending.load(Ordering::SeqCst) {
                 return;
             }
             let turn = self.turn(reading);
-            let now = now_ms(self.rt);
+            let now = self.now();
             match turn {
                 Turn::Over => return,
                 Turn::Nothing => {

@@ -2,10 +2,10 @@
 
 use crate::loading::Session;
 use crate::meter::Meter;
-use crate::reader::{Reader, now_ms};
+use crate::reader::{Reader, now_of};
 use crate::site::Site;
 use pdc_metrics::serve_many;
-use pdc_watch::{Three, Watch, Who};
+use pdc_watch::{Origin, Three, Watch, Who};
 use std::alloc::{AllocError, Global};
 use std::hash::RandomState;
 use std::net::{Net, TcpListener, TcpStream};
@@ -13,6 +13,7 @@ use std::rt::Clock;
 use std::sync::atomic::{AtomicBool, Ordering};
 use std::sync::{Mutex, Wait};
 use std::thread::{Scope, Threads};
+use std::time::Instant;
 use std::{io, thread};
 
 /// Starts the thread that reads a session, and answers whether it was started.
@@ -45,6 +46,7 @@ fn start_readers<
     pair: &Three<Session>,
     watch: &'s Mutex<Watch>,
     ending: &'s AtomicBool,
+    begun: Option<Instant>,
 ) -> bool {
     for who in [Who::A, Who::B, Who::M] {
         let reader = Reader {
@@ -54,6 +56,7 @@ fn start_readers<
             session: *pair.of(who),
             watch,
             ending,
+            begun,
         };
         if !start_reader(scope, reader) {
             return false;
@@ -62,13 +65,22 @@ fn start_readers<
     true
 }
 
-/// Where the sessions are, as text.
-fn addresses_of(alloc: Global, pair: &Three<Session>) -> Result<Three<String>, AllocError> {
-    let (a, b, m) = (pair.a.to, pair.b.to, pair.m.to);
+/// Where a session is, and how long its concentrator waits, for the page.
+fn origin_of(alloc: Global, session: &Session) -> Result<Origin, AllocError> {
+    let (to, kind) = (session.to, session.timing.wait_kind);
+    Ok(Origin {
+        address: format!(in alloc; "{to}")?,
+        wait: session.timing.wait,
+        wait_kind: format!(in alloc; "{kind:?}")?,
+    })
+}
+
+/// Where the sessions are.
+fn origins_of(alloc: Global, pair: &Three<Session>) -> Result<Three<Origin>, AllocError> {
     Ok(Three {
-        a: format!(in alloc; "{a}")?,
-        b: format!(in alloc; "{b}")?,
-        m: format!(in alloc; "{m}")?,
+        a: origin_of(alloc, &pair.a)?,
+        b: origin_of(alloc, &pair.b)?,
+        m: origin_of(alloc, &pair.m)?,
     })
 }
 
@@ -85,8 +97,9 @@ pub fn run<
     let alloc = rt.alloc();
     let listener = TcpListener::bind(rt, ("127.0.0.1", port))?;
     listener.set_nonblocking(true)?;
-    let addresses = addresses_of(alloc, pair)?;
-    let watch = Mutex::new(Watch::new(alloc, u32::from(pair.a.rate), now_ms(rt))?);
+    let origins = origins_of(alloc, pair)?;
+    let begun = Instant::now(rt).ok();
+    let watch = Mutex::new(Watch::new(alloc, u32::from(pair.a.rate), now_of(rt, begun))?);
     let ending = AtomicBool::new(false);
     println!(rt; "pdc watch: http://127.0.0.1:{port}/")?;
     thread::scope(thread::scope_env(), rt, |scope| -> io::Result<()> {
@@ -97,7 +110,9 @@ pub fn run<
             watch: &watch,
             ending: &ending,
         };
-        if !start_readers(scope, rt, alloc, pair, &watch, &ending) || !start_meter(scope, meter) {
+        if !start_readers(scope, rt, alloc, pair, &watch, &ending, begun)
+            || !start_meter(scope, meter)
+        {
             ending.store(true, Ordering::SeqCst);
             return Err(io::ErrorKind::OutOfMemory.into());
         }
@@ -105,7 +120,8 @@ pub fn run<
             rt,
             alloc,
             watch: &watch,
-            addresses: &addresses,
+            origins: &origins,
+            begun,
             port,
         };
         let served = serve_many(rt, alloc, keys, &mut site, &listener, &ending);

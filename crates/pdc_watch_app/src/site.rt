@@ -1,15 +1,16 @@
 //! The answers to requests.
 ghost use Rattle.std.specs.Prelude.{⊤};
 
-use crate::reader::now_ms;
+use crate::reader::now_of;
 use bytes::Bytes;
 use http::{HeaderValue, Request, StatusCode, header};
 use http_server::{Response, Service};
 use pdc_metrics::is_own_request;
-use pdc_watch::{Asked, PAGE, SCRIPT, STYLE, Three, Watch, json_of, route_of};
+use pdc_watch::{Asked, Origin, PAGE, SCRIPT, STYLE, Three, Watch, json_of, route_of};
 use std::alloc::{AllocError, Global};
 use std::rt::Clock;
 use std::sync::{Mutex, Wait};
+use std::time::Instant;
 
 /// What the page may load: what is here, and nothing of another host.
 const POLICY: &str =
@@ -21,7 +22,9 @@ pub struct Site<'a, R: Wait + Clock> {
     pub rt: &'a R,
     pub alloc: Global,
     pub watch: &'a Mutex<Watch>,
-    pub addresses: &'a Three<String>,
+    pub origins: &'a Three<Origin>,
+    /// When the program began.
+    pub begun: Option<Instant>,
     /// The port of the page.
     pub port: u16,
 }
@@ -29,9 +32,9 @@ pub struct Site<'a, R: Wait + Clock> {
 impl<R: Wait + Clock> Site<'_, R> {
     /// What is shown now.
     fn data(&self) -> Result<Bytes, AllocError> {
-        let now = now_ms(self.rt);
+        let now = now_of(self.rt, self.begun);
         let watch = self.watch.lock(self.rt);
-        let Ok(text) = json_of(self.alloc, &*watch, self.addresses, now) else {
+        let Ok(text) = json_of(self.alloc, &*watch, self.origins, now) else {
             return Err(AllocError);
         };
         Ok(Bytes::from_vec(text)?)

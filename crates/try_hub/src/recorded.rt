@@ -98,6 +98,7 @@ fn live_and_record<R: Wait + Clock + Shelf>(
     let limits = Limits {
         size: 1 << 20,
         keep: None,
+        lives: None,
     };
     let series = Series::open(rt, alloc, name, limits, begun_of(id, &text), 0).ok()?;
     let recording = Recording::new(alloc).ok()?;

@@ -22,6 +22,7 @@ mark-forget|a.mark -> status 2
 mark-forget|a.mark|a2.mark|x -> status 2
 node|a.toml|a.mark|--record-size|1 -> status 2
 node|a.toml|a.mark|--record-keep|3 -> status 2
+node|a.toml|a.mark|--record-lives|3 -> status 2
 shew -> status 2
 show|x -> status 2
 mark-init -> status 2
@@ -63,8 +64,10 @@ node|a.toml|a.mark|4294967295 -> Some(Node(Running { settings: "a.toml", mark: "
 node|a.toml|a.mark -> Some(Node(Running { settings: "a.toml", mark: "a.mark", ticks: None, every: None, is_quiet: false, record: None, control: None }))
 node|a.toml -> status 2
 merge|m.toml|m.mark|--quiet|--every|10 -> Some(Merge(Running { settings: "m.toml", mark: "m.mark", ticks: None, every: Some(10), is_quiet: true, record: None, control: None }))
-node|a.toml|a.mark|--record|a.record -> Some(Node(Running { settings: "a.toml", mark: "a.mark", ticks: None, every: None, is_quiet: false, record: Some(Record { name: "a.record", size: 64, keep: None }), control: None }))
-node|a.toml|a.mark|--record|a.record|--record-size|1|--record-keep|3 -> Some(Node(Running { settings: "a.toml", mark: "a.mark", ticks: None, every: None, is_quiet: false, record: Some(Record { name: "a.record", size: 1, keep: Some(3) }), control: None }))
+node|a.toml|a.mark|--record|a.record -> Some(Node(Running { settings: "a.toml", mark: "a.mark", ticks: None, every: None, is_quiet: false, record: Some(Record { name: "a.record", size: 64, keep: None, lives: None }), control: None }))
+node|a.toml|a.mark|--record|a.record|--record-size|1|--record-keep|3 -> Some(Node(Running { settings: "a.toml", mark: "a.mark", ticks: None, every: None, is_quiet: false, record: Some(Record { name: "a.record", size: 1, keep: Some(3), lives: None }), control: None }))
+node|a.toml|a.mark|--record|a.record|--record-lives|2 -> Some(Node(Running { settings: "a.toml", mark: "a.mark", ticks: None, every: None, is_quiet: false, record: Some(Record { name: "a.record", size: 64, keep: None, lives: Some(2) }), control: None }))
+node|a.toml|a.mark|--record|a.record|--record-lives|0 -> status 2
 node|a.toml|a.mark|--record|a.record|--record-size|65537 -> status 2
 node|a.toml|a.mark|0 -> status 2
 node|a.toml|a.mark|4294967296 -> status 2
@@ -106,7 +109,7 @@ listen -> status 2
 "#;
 
 /// How many they are.
-const ROWS: usize = 96;
+const ROWS: usize = 99;
 
 /// The words of a line.
 fn words(alloc: Global, line: &str) -> Result<Vec<String>, AllocError> {

@@ -18,7 +18,7 @@ const SOC: u32 = 1_149_577_200;
 /// A consumer, and its end of the connection.
 #[derive(Drop)]
 struct Pair<N: Naming> {
-    consumer: Consumer,
+    consumer: Consumer<N>,
     line: Line,
     recent: Recent<N>,
 }
@@ -76,10 +76,11 @@ fn command<N: Naming, R: Wait + Print>(
 fn new_pair<N: Naming>(alloc: Global, output: &Output) -> Result<Pair<N>, AllocError>
     requires { N.stream ≡ stream_of output.now }
 {
+    let recent = Recent::new(alloc, output, 1)?;
     Ok(Pair {
-        consumer: Consumer::new(alloc, output.id)?,
+        consumer: Consumer::new(alloc, &recent)?,
         line: Line::new(alloc),
-        recent: Recent::new(alloc, output, 1)?,
+        recent,
     })
 }
 

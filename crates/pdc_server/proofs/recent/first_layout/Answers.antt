@@ -3,8 +3,8 @@ use Rattle.pdc_row.specs.Layout.{layout_fields_of, layout_wire_of}
 use Rattle.pdc_frame.specs.Frame.{IsFrame}
 use Rattle.pdc_server.proofs.recent.first_layout.Goals as goal
 
-pub returns : goal.returns
-returns c =
+pub returns-clause-layout : goal.returns-clause-layout
+returns-clause-layout c =
     let made = c.in_ok-append_layout.ensures.config in
     let bytes = c.in_ok-append_layout.ensures.ok ∙ ap (λ (xs : List ℕ). xs ++ layout_wire_of c.args.output.now c.args.start 0 [] 0) c.new-layout.ensures.items in (
       made.config,

@@ -11,7 +11,7 @@ pub returns-clause-handed : goal.returns-clause-handed
 returns-clause-handed g c =
     let handed = c.hand_over-handed.result in
     let sink : handed.sink.inner.inner.inner ≡ c.args.opened.sink = rw (c.hand_over-handed.ensures.3, c.new-sink-3.ensures, c.new-sink-2.ensures.0, c.new-sink.ensures) refl in
-    let mark : g.M.Mark.stored (begun_mark handed.mark) ≡ g.M.Mark.stored (begun_mark c.args.opened.mark) = rw c.hand_over-handed.ensures.0 refl in
+    let mark : g.M.Mark.stored (begun_mark handed.mark).inner ≡ g.M.Mark.stored (begun_mark c.args.opened.mark) = rw (c.hand_over-handed.ensures.0, c.timed-mark.ensures) refl in
     handed_by sink mark
     (over_handed g.K.Sink.took handed.sink.inner.inner.inner (λ left. left.inner.inner.inner) (λ left. left.inner.refused) (Err (Run c.in-Err.fault)) tt c.in-Err.ensures.over)
 
@@ -19,7 +19,7 @@ pub returns-in-Ok-clause-handed : goal.returns-in-Ok-clause-handed
 returns-in-Ok-clause-handed g c =
     let handed = c.hand_over-handed.result in
     let sink : handed.sink.inner.inner.inner ≡ c.args.opened.sink = rw (c.hand_over-handed.ensures.3, c.new-sink-3.ensures, c.new-sink-2.ensures.0, c.new-sink.ensures) refl in
-    let mark : g.M.Mark.stored (begun_mark handed.mark) ≡ g.M.Mark.stored (begun_mark c.args.opened.mark) = rw c.hand_over-handed.ensures.0 refl in
+    let mark : g.M.Mark.stored (begun_mark handed.mark).inner ≡ g.M.Mark.stored (begun_mark c.args.opened.mark) = rw (c.hand_over-handed.ensures.0, c.timed-mark.ensures) refl in
     handed_by sink mark
     (over_handed g.K.Sink.took handed.sink.inner.inner.inner (λ left. left.inner.inner.inner) (λ left. left.inner.refused) (Err Clock) tt c.in-Ok.ensures.over)
 
@@ -27,6 +27,6 @@ pub returns-in-Ok-2-clause-handed : goal.returns-in-Ok-2-clause-handed
 returns-in-Ok-2-clause-handed g c =
     let handed = c.hand_over-handed.result in
     let sink : handed.sink.inner.inner.inner ≡ c.args.opened.sink = rw (c.hand_over-handed.ensures.3, c.new-sink-3.ensures, c.new-sink-2.ensures.0, c.new-sink.ensures) refl in
-    let mark : g.M.Mark.stored (begun_mark handed.mark) ≡ g.M.Mark.stored (begun_mark c.args.opened.mark) = rw c.hand_over-handed.ensures.0 refl in
+    let mark : g.M.Mark.stored (begun_mark handed.mark).inner ≡ g.M.Mark.stored (begun_mark c.args.opened.mark) = rw (c.hand_over-handed.ensures.0, c.timed-mark.ensures) refl in
     handed_by sink mark
     (over_handed g.K.Sink.took handed.sink.inner.inner.inner (λ left. left.inner.inner.inner) (λ left. left.inner.refused) (Ok c.in-Ok.field-0) refl c.in-Ok.ensures.over)
