@@ -1,4 +1,4 @@
--- What the alignment of a concentrator keeps of a life: a function of the life (this profile).
+-- What the alignment of a concentrator keeps of a life: a function of the life.
 use Rattle.std.specs.Prelude.{◌≡◌, ℕ, ◌+◌, Bool, true, false, List, [], ◌∷◌, length, map, Option, None, Some}
 use Rattle.pdc_arrival.specs.pdc_cfg.Section.{SectionFields}
 use Rattle.pdc_arrival.specs.pdc_row.declared.output.Output.{Output}

@@ -1,4 +1,4 @@
--- What each call of an alignment answers, and what it makes of what is kept (this profile).
+-- What each call of an alignment answers, and what it makes of what is kept.
 use Rattle.std.specs.Prelude.{◌≡◌, ◌<◌, ℕ, ◌+◌, ◌-◌, ◌^◌, ◌++◌, ◌==◌, Bool, ◌&&◌, false, true, not, if◌then◌else◌, List, [], ◌∷◌, length, map, max, nat_le, nat_lt, replicate, slice_set, slice_index_or, None}
 use Rattle.std.specs.List.{range_with_len}
 use Rattle.pdc_arrival.specs.pdc_cfg.Section.{SectionFields}

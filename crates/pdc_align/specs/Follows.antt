@@ -1,4 +1,4 @@
--- How the table of a concentrator follows its life, step by step (this profile).
+-- How the table of a concentrator follows its life, step by step.
 use Rattle.std.specs.Prelude.{◌≡◌, ℕ, ◌+◌, ◌^◌, ◌<◌, List, [], ◌∷◌, length, nat_le, nat_lt, if◌then◌else◌}
 use Rattle.std.specs.List.{AllByRecursion}
 use Rattle.pdc_arrival.specs.pdc_row.CellView.{CellView}

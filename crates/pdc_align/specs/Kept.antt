@@ -1,4 +1,4 @@
--- What an alignment keeps beside its columns, so that most ticks look at none (this profile).
+-- What an alignment keeps beside its columns, so that most ticks look at none.
 use Rattle.std.specs.Prelude.{◌≡◌, ℕ, false, List, map, Option}
 use Rattle.std.specs.List.{list_any}
 use Rattle.pdc_arrival.specs.pdc_cfg.declared.shape.Shape.{Shape}

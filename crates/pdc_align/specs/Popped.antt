@@ -1,4 +1,4 @@
--- The instants that were popped, beside what a table contains (this profile).
+-- The instants that were popped, beside what a table contains.
 use Rattle.std.specs.Prelude.{ℕ, ◌<◌, ◌≤◌, Option, None, Some}
 use Rattle.std.specs.List.{AllByRecursion}
 use Rattle.pdc_arrival.specs.pdc_row.RowView.{RowView}

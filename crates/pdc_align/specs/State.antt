@@ -1,4 +1,4 @@
--- What the table of a concentrator contains after a life: a function of the life (this profile).
+-- What the table of a concentrator contains after a life: a function of the life.
 use Rattle.std.specs.Prelude.{ℕ, ◌-◌, ◌==◌, true, List, [], ◌∷◌, map, nat_le, if◌then◌else◌, Option, None, Some, is_some, option_map}
 use Rattle.pdc_arrival.specs.pdc_cfg.Section.{SectionFields}
 use Rattle.pdc_arrival.specs.pdc_cfg.declared.shape.Shape.{Shape}

@@ -26,7 +26,7 @@ use pdc_table::{CopyFrom, DueRow, RowLayout, Table, copy_each};
 use std::alloc::{AllocError, Global};
 use std::marker::Model;
 
-/// The alignment of a concentrator over a table (this profile).
+/// The alignment of a concentrator over a table.
 #[derive(Drop)]
 pub struct Alignment<T: Table> {
     pub(crate) wait: u64,

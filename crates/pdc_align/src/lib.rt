@@ -1,4 +1,4 @@
-//! The alignment of a concentrator, node or merger (this profile): its table, what counts as now, the change number, and for each
+//! The alignment of a concentrator, node or merger: its table, what counts as now, the change number, and for each
 //! column the sections that are held and in force and the count that is cleared.
 //!
 //! Node and merger differ in what bytes say, and in what an arrival is answered first; what they have in common stands here. The

@@ -5,7 +5,7 @@ ghost use Rattle.pdc_table.specs.pdc_open_row.declared.limits.TheConstants.{MAX_
 
 use pdc_arrival::WaitKind;
 
-/// How instants are aligned (this profile).
+/// How instants are aligned.
 #[derive(Clone, Copy, Debug)]
 pub struct Plan {
     /// How long an open instant waits, in ticks or in instants.

@@ -1,4 +1,4 @@
--- Why a call of the aligner failed, and how the mark stands (this profile).
+-- Why a call of the aligner failed, and how the mark stands.
 use Rattle.std.specs.Prelude.{◌≡◌, ◌⊎◌, ℕ, ◌≤◌, ◌<◌, ◌-◌, ◌^◌, Bool, true, IsTrue, IsErrOf, OnOk, Result}
 use Rattle.pdc_mark.specs.declared.mark.Mark.{Ghosts}
 use Rattle.pdc_publisher.specs.declared.publisher.Publisher.{Publisher}

@@ -1,4 +1,4 @@
--- What the frames of every life are (this profile).
+-- What the frames of every life are.
 use Rattle.std.specs.List.{AllByRecursion}
 use Rattle.std.specs.Prelude.{◌≡◌, ◌⊎◌, ℕ, List, ◌++◌, map}
 use Rattle.pdc_life.specs.CoreKind.{CoreKind, IsLifeOf, output_under}

@@ -1,4 +1,4 @@
--- What a life puts on the channel: a function of the life (this profile).
+-- What a life puts on the channel: a function of the life.
 use Rattle.std.specs.Prelude.{◌≡◌, ℕ, ◌+◌, ◌/◌, ◌%◌, ◌-◌, ◌^◌, ◌==◌, ◌≤◌, min, Bool, true, false, ◌&&◌, ◌||◌, List, [], ◌∷◌, ◌++◌, length, if◌then◌else◌, Option, None, Some}
 use Rattle.pdc_life.specs.Answer.{ReadStep, Rules}
 use Rattle.pdc_life.specs.Given.{Given}

@@ -1,4 +1,4 @@
--- With what the core was opened whose rows are published (this profile).
+-- With what the core was opened whose rows are published.
 use Rattle.std.specs.Prelude.{◌≡◌, Option, Some}
 use Rattle.pdc_life.specs.Given.{Given}
 use Rattle.pdc_mark.specs.declared.stored.Stored.{Stored}

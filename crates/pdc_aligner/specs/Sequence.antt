@@ -1,4 +1,4 @@
--- What is put, and its instants (this profile).
+-- What is put, and its instants.
 use Rattle.std.specs.Prelude.{◌≡◌, ℕ, ◌+◌, ◌<◌, ◌≤◌, List, [], ◌∷◌, ◌++◌, length, OnOk, Result}
 use Rattle.pdc_hub.specs.declared.fault.HubFault.{HubFault}
 use Rattle.pdc_row.specs.declared.output.Output.{Output}

@@ -1,4 +1,4 @@
--- The instants and the counts of the ticks of a run (this profile).
+-- The instants and the counts of the ticks of a run.
 use Rattle.std.specs.Prelude.{◌≡◌, ℕ, ◌≤◌, Bool, true, List, [], ◌∷◌, ◌++◌, length, map, OnOk, Option, Result, if◌then◌else◌, slice_index}
 use mathlib.Core.List.{IsPrefix}
 use Rattle.pdc_hub.specs.declared.fault.HubFault.{HubFault}

@@ -1,4 +1,4 @@
-//! The aligner of a running core: it ticks, pops what is due, publishes it, and puts it with the layouts on the channel (this profile).
+//! The aligner of a running core: it ticks, pops what is due, publishes it, and puts it with the layouts on the channel.
 //!
 //! The first call to look at is [`align`], which ticks as a `Ticker` of `pdc_ports` says, at a [`Pace`].
 //!

@@ -1,4 +1,4 @@
-//! Mark files of any owner: what one holds, and the same without its counts (this profile).
+//! Mark files of any owner: what one holds, and the same without its counts.
 //!
 //! [`AnyMark`] is what a mark file has, whoever owns it: `pdc_mark` opens a mark for its owner alone. Its promise to the program: what is read is the
 //! mark of the file, and what is written has the same owner, start number and floor, and counts 0. [`run_mark_show_command`] and

@@ -1,4 +1,4 @@
--- What a core keeps of the answers of a life (this profile).
+-- What a core keeps of the answers of a life.
 use Rattle.std.specs.Prelude.{ℕ, ◌+◌, ◌==◌, Bool, List, map, slice_index_or, slice_set}
 use Rattle.std.specs.List.{range_with_len}
 use Rattle.pdc_life.specs.Causes.{number_of}

@@ -1,4 +1,4 @@
--- What a layout is answered, by the stamp that is held of its node (this profile).
+-- What a layout is answered, by the stamp that is held of its node.
 use Rattle.std.specs.Prelude.{Bool, not, if◌then◌else◌, Option, None, Some}
 use Rattle.pdc_life.specs.declared.outcome.Outcome.{Outcome}
 use Rattle.pdc_life.specs.declared.outcome.Outcome.TheVariants.{Candidate, Known, Refused}

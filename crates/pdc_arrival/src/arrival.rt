@@ -2,7 +2,7 @@
 use arrayvec::ArrayVec;
 use pdc_life::{MAX_PMUS, Refusal, SectionView};
 
-/// The stamp of a layout (this profile): it tells the layouts of all lives of a concentrator apart.
+/// The stamp of a layout: it tells the layouts of all lives of a concentrator apart.
 #[derive(Clone, Copy, Debug, PartialEq, Eq)]
 pub struct Stamp {
     /// The number of the start.

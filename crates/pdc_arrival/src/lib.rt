@@ -1,5 +1,5 @@
 //! What arrives at a concentrator, node or merger: what its bytes say, whatever came before, and how it is answered, as far as that
-//! needs no more than what is held (this profile).
+//! needs no more than what is held.
 //!
 //! The first type to look at is [`Arrival`]: bytes that are refused, data of an instant, or a layout, whose sections stand beside
 //! their columns. What is read is lent from the bytes, so no memory is wanted. The first function of the answers is [`section_answer`];

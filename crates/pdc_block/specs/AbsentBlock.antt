@@ -1,4 +1,4 @@
--- The block that stands for a PMU whose data did not come (this profile).
+-- The block that stands for a PMU whose data did not come.
 use Rattle.std.specs.Prelude.{◌≡◌, ◌≢◌, ℕ, ◌*◌, List, ◌∷◌, ◌++◌, replicate}
 use Rattle.pdc_cfg.specs.declared.shape.Shape.{Shape}
 use Rattle.pdc_block.specs.declared.block.Block.{Block}

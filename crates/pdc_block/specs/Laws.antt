@@ -1,4 +1,4 @@
--- What holds of the words that bytes write (this profile).
+-- What holds of the words that bytes write.
 use Rattle.std.specs.Prelude.{◌≡◌, ℕ, ◌*◌, List, drop, length, take}
 use Rattle.pdc_cfg.specs.pdc_frame.Bytes.{AreBytes}
 use Rattle.pdc_block.specs.Block.{AreWords, bytes_of_words, words_in}

@@ -16,7 +16,7 @@ pub const ABSENT_STAT: u16 = 0xA1F0;
 /// The value that stands for no value in a phasor, FREQ, DFREQ or an analog word.
 pub const NO_VALUE: u16 = 0x8000;
 
-/// The block of a PMU of this shape whose data did not come (this profile): STAT is `ABSENT_STAT`, both words of each
+/// The block of a PMU of this shape whose data did not come: STAT is `ABSENT_STAT`, both words of each
 /// phasor, FREQ, DFREQ and each analog word are `NO_VALUE`, and each digital word is 0.
 pub fn absent(shape: Shape) -> Block
     ensures shape { result.shape ≡ shape }

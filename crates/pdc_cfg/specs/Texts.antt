@@ -1,4 +1,4 @@
--- The text of each fault (this profile): its code and its name.
+-- The text of each fault: its code and its name.
 use Rattle.std.specs.Prelude.{ℕ, List, codes}
 use Rattle.pdc_cfg.specs.declared.fault.CfgFault.{CfgFault}
 use Rattle.pdc_cfg.specs.declared.fault.CfgFault.TheVariants as cfg

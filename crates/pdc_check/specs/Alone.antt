@@ -1,4 +1,4 @@
--- What is odd in the settings of one concentrator (this profile).
+-- What is odd in the settings of one concentrator.
 use Rattle.std.specs.Prelude.{◌==◌, ◌&&◌, not, Bool, List, [], ◌∷◌, ◌++◌, if◌then◌else◌, Option, Some, None}
 use Rattle.std.specs.Option.{option_to_list}
 use Rattle.pdc_check.specs.declared.finding.Finding.{Finding}

@@ -1,4 +1,4 @@
--- How grave a finding is (this profile).
+-- How grave a finding is.
 use Rattle.pdc_check.specs.declared.finding.Finding.{Finding}
 use Rattle.pdc_check.specs.declared.finding.Finding.TheVariants.{NoLead, Open, PortTwice}
 use Rattle.pdc_check.specs.declared.finding.Level.{Level}

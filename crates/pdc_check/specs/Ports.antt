@@ -1,4 +1,4 @@
--- When two ports at which is listened are one (this profile).
+-- When two ports at which is listened are one.
 use Rattle.std.specs.Prelude.{◌==◌, ◌&&◌, ◌||◌, not, ℕ, Bool, List, [], ◌∷◌, ◌++◌, if◌then◌else◌, Option, Some, None}
 use Rattle.std.specs.List.{list_all}
 use Rattle.std.specs.Net.Addr.{ipv4_octets, ipv6_octets}

@@ -1,4 +1,4 @@
-//! What is wrong in settings, and what of several does not fit, before anything is run (this profile).
+//! What is wrong in settings, and what of several does not fit, before anything is run.
 //!
 //! The type to look at first is [`Outline`], what of the settings of a node or of the merger has to fit; [`findings`] says what is odd in
 //! one, and [`misfits`] what of two does not fit.

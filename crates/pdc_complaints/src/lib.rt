@@ -1,5 +1,5 @@
 //! What is reported of a stream that is taken: that its sender is not what the settings say, with what came and what they say; and when it
-//! falls silent, comes again, or is not understood (this profile).
+//! falls silent, comes again, or is not understood.
 //!
 //! The first type to look at is [`Complaint`]. [`Said`] is what a datagram says of its sender, [`Expected`] what the settings say, and
 //! [`complaint_of`] which complaint a refusal is.

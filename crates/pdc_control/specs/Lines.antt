@@ -1,4 +1,4 @@
--- What is said at the socket of a run (this profile). One line is asked, and ended by a line feed: `stop`, `status` or `status json`. What is answered
+-- What is said at the socket of a run. One line is asked, and ended by a line feed: `stop`, `status` or `status json`. What is answered
 -- begins with a line of one word, and ends where the connection does: `done`, with what was asked for behind it, or `refused` or `failed`, with the reason
 -- behind it. A run answers `stop` once it has ended.
 use Rattle.std.specs.Prelude.{◌≡◌, refl, ℕ, ◌++◌, List, [], ◌∷◌, Option, Some, None, codes, if◌then◌else◌}

@@ -1,4 +1,4 @@
-//! Stopping a run and asking how it stands, from another program, at a Unix socket (this profile).
+//! Stopping a run and asking how it stands, from another program, at a Unix socket.
 //!
 //! The first type to look at is [`Control`]: what a run and those who ask say to each other. [`ControlledTicker`] is a `Ticker` of `pdc_ports`
 //! that gives no tick once the run is to stop, and answers how the run stands. [`ControlSocket`] is the socket, at which [`serve_control`]

@@ -1,4 +1,4 @@
--- Cores that are alike: they stand for lives that begin with the same (this profile).
+-- Cores that are alike: they stand for lives that begin with the same.
 use Rattle.std.specs.Prelude.{List}
 use Rattle.pdc_align.specs.pdc_life.Given.{Given}
 use Rattle.pdc_align.specs.pdc_life.Life.{Entry}

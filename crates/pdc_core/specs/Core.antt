@@ -1,4 +1,4 @@
--- What a core is told by bytes (this profile).
+-- What a core is told by bytes.
 use Rattle.std.specs.Prelude.{◌≡◌, ℕ, List, ◌∷◌}
 use Rattle.pdc_align.specs.pdc_life.Answer.{Rules, ToArrive, answered}
 use Rattle.pdc_align.specs.pdc_life.Arrival.{Arrival}

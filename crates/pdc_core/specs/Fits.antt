@@ -1,4 +1,4 @@
--- What can arrive at all, whatever the bytes were: a test of the stream and of the columns (this profile).
+-- What can arrive at all, whatever the bytes were: a test of the stream and of the columns.
 use Rattle.std.specs.Prelude.{ℕ, ◌+◌, ◌==◌, ◌&&◌, Bool, true, false, List, [], ◌∷◌, length, nat_lt, if◌then◌else◌}
 use Rattle.std.specs.List.{list_all}
 use Rattle.pdc_align.specs.pdc_cfg.Section.{SectionFields}

@@ -1,4 +1,4 @@
--- What contracts see of an arrival that was kept (this profile).
+-- What contracts see of an arrival that was kept.
 use Rattle.std.specs.Prelude.{ℕ, Bool, true, false, List, length, map, nat_le, option_map}
 use Rattle.pdc_align.specs.pdc_cfg.Section.{SectionFields, fields_of_section}
 use Rattle.pdc_core.specs.declared.payload.Payload.{Payload}

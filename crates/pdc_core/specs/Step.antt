@@ -1,4 +1,4 @@
--- The steps of a core and its replies, beside the steps of lives and their answers (this profile).
+-- The steps of a core and its replies, beside the steps of lives and their answers.
 use Rattle.std.specs.Prelude.{◌≡◌, ℕ, Bool, true, false, List, Some, nat_lt, option_map}
 pub use Rattle.pdc_align.specs.Align.{ticked_of}
 pub use Rattle.pdc_align.specs.Popped.{popped_after}

@@ -1,4 +1,4 @@
-//! Disks: what a program may rely on of bytes that are to outlast a stop (this profile).
+//! Disks: what a program may rely on of bytes that are to outlast a stop.
 //!
 //! The trait [`Disk`] says in contracts what a read sees, what a stop may leave after a call that succeeded
 //! and after one that failed, and when a call may fail at all. Its promise to the layer above: each byte

@@ -1,4 +1,4 @@
--- What data adds that an instant waits for (this profile).
+-- What data adds that an instant waits for.
 use Rattle.std.specs.Prelude.{◌≡◌, refl, ℕ, ◌+◌, ◌-◌, ◌*◌, ◌/◌, nat_le, if◌then◌else◌}
 
 -- How many nanoseconds data added that came last at this time, where that of the stream before it came at `before`: the time in between. It is

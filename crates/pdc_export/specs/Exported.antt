@@ -1,4 +1,4 @@
--- What becomes of a frame (this profile).
+-- What becomes of a frame.
 use Rattle.std.specs.Prelude.{Bool, true, false}
 use Rattle.pdc_show.specs.declared.refusal.NotShown.{NotShown}
 use Rattle.pdc_show.specs.declared.refusal.NotShown.TheVariants as why

@@ -1,5 +1,5 @@
 -- What command and header frames carry (IEEE C37.118.2-2011, 6.6 with table 15, and 6.5). Both are written with
--- version 2, time quality 0 and count 0 (this profile).
+-- version 2, time quality 0 and count 0.
 use Rattle.std.specs.Prelude.{◌≡◌, ◌≢◌, ℕ, List, length}
 use Rattle.std.specs.Int.{w16, to_be_bytes}
 use Rattle.pdc_frame.specs.declared.frame.Kind.TheVariants.{CommandFrame, HeaderFrame}

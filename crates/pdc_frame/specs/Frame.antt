@@ -1,5 +1,5 @@
 -- The spelling of a frame (IEEE C37.118.2-2011, 6.2 and table 2): SYNC, FRAMESIZE, IDCODE, SOC, FRACSEC, the payload
--- and CHK. FRAMESIZE counts the whole frame. Versions 1 and 2 are read alike (this profile).
+-- and CHK. FRAMESIZE counts the whole frame. Versions 1 and 2 are read alike.
 use Rattle.std.specs.Prelude.{◌≡◌, ◌≢◌, ◌⊎◌, ℕ, ◌+◌, ◌-◌, ◌*◌, ◌/◌, ◌%◌, ◌^◌, ◌<◌, ◌≤◌, List, ◌∷◌, ◌++◌, length, take, drop, slice_index}
 use Rattle.std.specs.Int.{w16, w32, to_be_bytes}
 use Rattle.pdc_frame.specs.declared.frame.Kind.{Kind}

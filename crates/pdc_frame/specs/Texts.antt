@@ -1,4 +1,4 @@
--- The text of each fault (this profile): its code and its name.
+-- The text of each fault: its code and its name.
 use Rattle.std.specs.Prelude.{ℕ, List, codes}
 use Rattle.pdc_frame.specs.declared.fault.FrameFault.{FrameFault}
 use Rattle.pdc_frame.specs.declared.fault.FrameFault.TheVariants as frame

@@ -9,7 +9,7 @@ use crate::tag_limits::{COUNT_LIMIT, MAX_RATE, SECONDS};
 /// Which frame of its second the tag `frac`/`time_base` stands for, at `rate` frames a second, counted from 0.
 ///
 /// The grid point k/rate nearest to the tag, the upper of two equally near, if the tag lies in its second and is less
-/// than one count off; else `None`, also under `TIME_BASE` 0 (this profile; FRACSEC and `TIME_BASE` are of
+/// than one count off; else `None`, also under `TIME_BASE` 0 (FRACSEC and `TIME_BASE` are of
 /// C37.118.2-2011, 6.2).
 #[tactic(auto, unfolding(crate::specs::Slot::slot_of))]
 pub fn slot(frac: u32, time_base: u32, rate: u32) -> Option<u32>

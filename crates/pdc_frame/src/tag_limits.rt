@@ -1,6 +1,6 @@
 //! The ranges of what a tag is made of.
 
-/// The greatest data rate, in frames a second (this profile).
+/// The greatest data rate, in frames a second.
 pub const MAX_RATE: u32 = 240;
 
 /// What counts of a second and `TIME_BASE` lie below: both have 24 bits (C37.118.2-2011, 6.2).

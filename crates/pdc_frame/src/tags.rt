@@ -7,7 +7,7 @@ use crate::nearest::nearest;
 use crate::tag_limits::{COUNT_LIMIT, MAX_RATE, SECONDS};
 
 /// The tag of an instant at `rate` frames a second: its second (SOC), and the count of `time_base` parts nearest to
-/// its slot, the upper of two equally near (this profile; C37.118.2-2011, 6.2).
+/// its slot, the upper of two equally near (C37.118.2-2011, 6.2).
 ///
 /// The count lies below `time_base`, and [`instant`](crate::instant) of the tag is the instant.
 pub fn tag_of(instant: u64, time_base: u32, rate: u32) -> (u32, u32)

@@ -1,4 +1,4 @@
--- The settings of two nodes and a merger agree (this profile).
+-- The settings of two nodes and a merger agree.
 use Rattle.std.specs.{List.{AllByRecursion}, Prelude.{◌<◌, ◌^◌, ◌≡◌, ◌≢◌, List, map, true, ℕ}}
 use Rattle.pdc_life.specs.declared.pmu.Pmu.{Pmu}
 use Rattle.pdc_history.specs.World.{first_mark, is_same, output_of, Who, World}

@@ -1,4 +1,4 @@
--- What a world is asked to do, before its bytes are read: the event that it reads as, and why it is a fault (this profile).
+-- What a world is asked to do, before its bytes are read: the event that it reads as, and why it is a fault.
 use Rattle.std.specs.{List.{Contains, slice_get}, Prelude.{◌^◌, ◌≡◌, ◌≢◌, ◌≤◌, ◌⊎◌, length, List, Some, ℕ}}
 use Rattle.pdc_frame.specs.Frame.{Fields, IsFrame}
 use Rattle.pdc_cfg.specs.Section.{SectionFields}

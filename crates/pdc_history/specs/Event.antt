@@ -1,4 +1,4 @@
--- Events, with their bytes read, and what they make happen (this profile).
+-- Events, with their bytes read, and what they make happen.
 use Rattle.std.specs.Prelude.{[], ◌∷◌, Bool, if◌then◌else◌, List, Option, option_map, ℕ}
 use Rattle.pdc_row.specs.RowView.{RowView}
 use Rattle.pdc_mark.specs.{declared.stored.Stored.{Stored}, Stored.{with_due, with_next_start, with_waiting}}

@@ -1,4 +1,4 @@
--- What a reader of the streams sees: frames among those that were sent, and the layout under a stamp (this profile).
+-- What a reader of the streams sees: frames among those that were sent, and the layout under a stamp.
 use Rattle.std.specs.{List.{Contains, slice_get}, Prelude.{[], ◌<◌, ◌^◌, ◌∷◌, ◌≡◌, ◌⊎◌, List, map, Some, ℕ}}
 use Rattle.pdc_cfg.specs.{Config.{ConfigFields}, declared.shape.Shape.{Shape}, Section.{SectionFields}}
 use Rattle.pdc_block.specs.{AbsentBlock.{absent_of}, Block.{IsBody, IsCut}}

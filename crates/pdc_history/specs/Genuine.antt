@@ -1,4 +1,4 @@
--- The blocks of frames that were sent are genuine, so frames agree (this profile).
+-- The blocks of frames that were sent are genuine, so frames agree.
 use Rattle.std.specs.{List.{AllByRecursion, Contains, slice_get}, Prelude.{◌≡◌, ◌≢◌, List, map, Some, ℕ}}
 use Rattle.pdc_cfg.specs.Section.{SectionFields}
 use Rattle.pdc_block.specs.AbsentBlock.{absent_of}

@@ -1,4 +1,4 @@
--- What the events that are handed to a world ask of it, and which cause a fault tells (this profile).
+-- What the events that are handed to a world ask of it, and which cause a fault tells.
 use Rattle.std.specs.Prelude.{Option, None, Some}
 use Rattle.pdc_history.specs.Asked.{Asked, Cause, OtherBody, OtherSection, Foreign}
 use Rattle.pdc_history.specs.Asked as asked

@@ -1,4 +1,4 @@
--- What the frames that were sent are to the history of a world (this profile).
+-- What the frames that were sent are to the history of a world.
 use Rattle.std.specs.Prelude.{◌≡◌, ℕ, false, List, [], ◌∷◌}
 use Rattle.std.specs.List.{Contains}
 use Rattle.pdc_history.specs.Asked as asked

@@ -1,4 +1,4 @@
--- Which histories a world may have: each thing happened as an event that may happen makes it (this profile).
+-- Which histories a world may have: each thing happened as an event that may happen makes it.
 use Rattle.std.specs.{List.{Contains, slice_get}, Prelude.{[], ◌<◌, ◌^◌, ◌∷◌, ◌≡◌, List, map, Some, ℕ}}
 use Rattle.pdc_frame.specs.Frame.{Fields, IsFrame}
 use Rattle.pdc_cfg.specs.Section.{SectionFields}

@@ -1,4 +1,4 @@
--- Marks bound what was published and adopted, so instants rise and counts never fall, over all lives (this profile).
+-- Marks bound what was published and adopted, so instants rise and counts never fall, over all lives.
 use Rattle.std.specs.{List.{AllByRecursion}, Prelude.{◌++◌, ◌<◌, ◌^◌, ◌≡◌, ◌≤◌, length, List, Some, ℕ}}
 use Rattle.pdc_cfg.specs.Section.{SectionFields}
 use Rattle.pdc_row.specs.{Rising.{Rises}, RowView.{row_instants, RowView}}

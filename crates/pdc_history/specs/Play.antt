@@ -1,4 +1,4 @@
--- What a world that was asked these things, one after the other, is; and what it tells (this profile).
+-- What a world that was asked these things, one after the other, is; and what it tells.
 use Rattle.std.specs.Prelude.{[], ◌+◌, ◌∷◌, ◌≡◌, Bool, if◌then◌else◌, length, List, None, Option, Some, ℕ}
 use Rattle.pdc_row.specs.RowView.{RowView}
 use Rattle.pdc_life.specs.{declared.outcome.Outcome.{Outcome}, Life.{Arrive, changes, Entry, is_adoption, Tick}}

@@ -1,4 +1,4 @@
--- What PMUs sent, in every history (this profile).
+-- What PMUs sent, in every history.
 use Rattle.std.specs.{List.{Contains, slice_get}, Prelude.{◌∷◌, ◌≡◌, List, Some, ℕ}}
 use Rattle.pdc_frame.specs.Frame.{Fields}
 use Rattle.pdc_cfg.specs.Section.{SectionFields}

@@ -1,4 +1,4 @@
--- What a reader of the streams sees: the settings, and the frames that were ever sent (this profile).
+-- What a reader of the streams sees: the settings, and the frames that were ever sent.
 use Rattle.std.specs.Prelude.{List, ℕ}
 use Rattle.pdc_row.specs.declared.output.Output.{Output}
 use Rattle.pdc_life.specs.{CoreKind.{output_under}, declared.given.Settings.{Settings}, declared.merging.MergerSettings.{MergerSettings}, Reading.{Stream}}

@@ -1,4 +1,4 @@
--- All frames that were ever sent, and which frame a PMU may send after them (this profile). Definitions speak of the list of frames
+-- All frames that were ever sent, and which frame a PMU may send after them. Definitions speak of the list of frames
 -- alone: `Histories` says what they are of a world.
 use Rattle.std.specs.Prelude.{◌≡◌, ◌≢◌, ℕ, Bool, false, List, [], ◌∷◌, ◌++◌, Some}
 use Rattle.std.specs.List.{Contains, slice_get}

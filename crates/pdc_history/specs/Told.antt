@@ -1,4 +1,4 @@
--- What a frame tells of a PMU: of an instant a body, and under a count a section (this profile).
+-- What a frame tells of a PMU: of an instant a body, and under a count a section.
 use Rattle.std.specs.Prelude.{◌≡◌, ℕ, List, [], ◌∷◌, Option, None, Some}
 use Rattle.pdc_cfg.specs.Section.{SectionFields}
 use Rattle.pdc_life.specs.declared.given.Settings.{Settings}

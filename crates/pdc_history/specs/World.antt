@@ -1,5 +1,5 @@
 -- The world of two nodes, a merger and the network between them, as the list of what happened in it, the newest first, each with
--- what followed from it (this profile). All else is recursion over that list: each definition speaks of what had happened before.
+-- what followed from it. All else is recursion over that list: each definition speaks of what had happened before.
 use Rattle.std.specs.Prelude.{[], ◌++◌, ◌∷◌, Bool, false, if◌then◌else◌, List, None, Option, option_map, Some, true, ℕ}
 use Rattle.pdc_row.specs.RowView.{RowView}
 use Rattle.pdc_row.specs.{declared.output.Output.{Output}, Layout.{wire_of}}

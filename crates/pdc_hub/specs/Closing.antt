@@ -1,4 +1,4 @@
--- The close of a hub (this profile).
+-- The close of a hub.
 use Rattle.std.specs.Prelude.{ℕ}
 use Rattle.pdc_hub.specs.declared.hub.Hub.{Hub}
 

@@ -1,4 +1,4 @@
--- What a delivery adds to the caller's shares (this profile).
+-- What a delivery adds to the caller's shares.
 use Rattle.std.specs.Prelude.{◌≡◌, ℕ, ◌+◌, ◌-◌, ◌^◌, ◌≤◌, Bool, ◌||◌, nat_le}
 use Rattle.pdc_core.specs.Step.{Counts}
 use Rattle.pdc_life.specs.declared.outcome.Outcome.{Outcome}

@@ -1,4 +1,4 @@
--- Which ledger it is, and into how many parts its shares are cut (this profile).
+-- Which ledger it is, and into how many parts its shares are cut.
 use Rattle.std.specs.Prelude.{ℕ}
 
 pub record Cut : Type 0 where

@@ -1,4 +1,4 @@
--- The rows that are popped (this profile).
+-- The rows that are popped.
 use Rattle.std.specs.Prelude.{◌≡◌, ℕ, ◌+◌, ◌<◌, Bool, true, false, Option, None, Some}
 use Rattle.pdc_row.specs.RowView.{RowView, row_view}
 use Rattle.pdc_row.specs.declared.due_row.DueRow.{DueRow}

@@ -1,4 +1,4 @@
--- What a receiver heard of its source, and what came of it (this profile).
+-- What a receiver heard of its source, and what came of it.
 use Rattle.std.specs.Prelude.{◌≡◌, ℕ, ◌+◌, List, [], ◌∷◌, ◌++◌, length, map, sum, Option, None, Some}
 use Rattle.pdc_life.specs.Answer.{ReadStep, Rules, ToArrive}
 use Rattle.pdc_life.specs.Arrival.{Arrival}

@@ -1,4 +1,4 @@
--- A core beside a base: the one is the replay of steps over the other, and both are of one life, whose steps are the log (this profile).
+-- A core beside a base: the one is the replay of steps over the other, and both are of one life, whose steps are the log.
 use Rattle.std.specs.Prelude.{◌≡◌, ℕ, Bool, true, List, [], ◌∷◌, ◌++◌, length, nat_le, if◌then◌else◌, Option, Some}
 use mathlib.Core.List.{IsPrefix}
 use Rattle.pdc_core.specs.Step.{IsOf}

@@ -1,4 +1,4 @@
--- What a sink takes of what it is handed (this profile).
+-- What a sink takes of what it is handed.
 use Rattle.std.specs.Prelude.{◌≡◌, ◌⊎◌, ◌∷◌, List, []}
 
 -- the first are some of the second, in the same order

@@ -1,4 +1,4 @@
--- When something is told of a sender whose frames are refused (this profile).
+-- When something is told of a sender whose frames are refused.
 use Rattle.std.specs.Prelude.{ℕ, List, Option, None, Some, Bool, replicate, slice_index_or, slice_set, if◌then◌else◌}
 use Rattle.pdc_complaints.specs.pdc_life.Causes.{number_of}
 use Rattle.pdc_complaints.specs.pdc_life.declared.outcome.Refusal.{Refusal}

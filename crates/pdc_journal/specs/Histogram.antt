@@ -1,4 +1,4 @@
--- Lengths of time, counted by size (this profile). The bounds rise.
+-- Lengths of time, counted by size. The bounds rise.
 use Rattle.std.specs.Prelude.{◌≡◌, ℕ, ◌+◌, ◌-◌, ◌^◌, List, [], ◌∷◌, min, nat_lt, refl, slice_index_or, slice_set}
 use Rattle.std.specs.List.{prefix_len}
 

@@ -1,4 +1,4 @@
--- How long ago something was, by a clock that never goes back (this profile).
+-- How long ago something was, by a clock that never goes back.
 use Rattle.std.specs.Prelude.{◌≡◌, refl, ℕ, ◌*◌, ◌-◌, Bool, true, false, nat_le, Option, None, Some}
 use Rattle.std.specs.Time.{instant_nanos}
 use Rattle.std.specs.declared.time.Instant.{Instant}

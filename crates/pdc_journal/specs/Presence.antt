@@ -1,4 +1,4 @@
--- Whether data of a PMU comes, and when that is told (this profile).
+-- Whether data of a PMU comes, and when that is told.
 use Rattle.std.specs.Prelude.{Bool, true, false, if◌then◌else◌, Option, None, Some}
 use Rattle.pdc_journal.specs.Spell.{begun_at, is_due, looked_at, was_told}
 use Rattle.pdc_journal.specs.declared.moment.Moment.{Moment}

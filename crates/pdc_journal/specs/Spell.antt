@@ -1,4 +1,4 @@
--- Something that lasts, as a silence (this profile).
+-- Something that lasts, as a silence.
 use Rattle.std.specs.Prelude.{◌&&◌, ◌||◌, Bool, false, not}
 use Rattle.pdc_journal.specs.Moment.{is_past}
 use Rattle.pdc_journal.specs.declared.moment.Moment.{Moment}

@@ -1,4 +1,4 @@
-//! What a running concentrator tells of itself on standard error while it runs (this profile).
+//! What a running concentrator tells of itself on standard error while it runs.
 //!
 //! The first type to look at is [`Journal`]: a queue of lines that a thread of its own prints, so that whoever does not read standard error
 //! holds up nobody else. [`ObservedSource`] tells when a stream falls silent, comes again or is not understood, and counts its answers in

@@ -1,4 +1,4 @@
--- The values at the keys of a settings text (this profile).
+-- The values at the keys of a settings text.
 use Rattle.std.specs.Prelude.{ℕ, ℤ, pos, negsuc, List, ◌&&◌, nat_le, if◌then◌else◌, Option, Some, None, option_and_then, option_map}
 use Rattle.toml.specs.Data.{Data, Items, no_items, Members, as_array, as_integer, get_member}
 

@@ -1,4 +1,4 @@
--- The names of the keys that are read, of each table of a settings text (this profile).
+-- The names of the keys that are read, of each table of a settings text.
 use Rattle.std.specs.Prelude.{ℕ, List, [], ◌∷◌, codes}
 
 -- at the top, of a node and of the merger

@@ -1,4 +1,4 @@
--- Which known name is nearest to one that is not known (this profile).
+-- Which known name is nearest to one that is not known.
 use Rattle.std.specs.Prelude.{◌≡◌, refl, ℕ, ◌/◌, ◌&&◌, ◌||◌, Bool, true, false, List, [], ◌∷◌, length, nat_le, nat_lt, if◌then◌else◌, Option, Some, None}
 use Rattle.std.specs.Str.{chars}
 use Rattle.strsim.specs.Edits.{osa_table}

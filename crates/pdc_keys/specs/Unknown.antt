@@ -1,4 +1,4 @@
--- The keys of a settings text that nothing reads, table by table (this profile).
+-- The keys of a settings text that nothing reads, table by table.
 use Rattle.std.specs.Prelude.{ℕ, suc, Bool, false, ◌||◌, List, [], ◌∷◌, ◌++◌, codes, nat_eq, if◌then◌else◌, Option, Some, None, is_some, option_map, string_bytes}
 use Rattle.std.specs.Cmp.Lexicographic.{pointwise}
 use Rattle.toml.specs.Data.{Items, no_items, item, Members, no_members, member, as_table, get_member}

@@ -1,4 +1,4 @@
-//! Values at the keys of a settings text, what is wanted at each, and keys that nothing reads (this profile).
+//! Values at the keys of a settings text, what is wanted at each, and keys that nothing reads.
 //!
 //! The functions to look at first are [`value_at`] and [`number`]; [`Wanted`] names each key with what may stand there.
 //!

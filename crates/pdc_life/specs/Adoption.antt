@@ -1,4 +1,4 @@
--- What a tick adopts (this profile).
+-- What a tick adopts.
 use Rattle.std.specs.Prelude.{◌-◌, ◌<◌, ◌^◌, ◌∷◌, ◌≡◌, ◌≤◌}
 use Rattle.pdc_life.specs.Lives.{changes, cleared_count, count_for, Entry, Given, held_section, IsTicked, List, max, None, Option, section_in_force, SectionFields, Some, Tick, TickAnswer, ℕ}
 

@@ -1,4 +1,4 @@
--- What a step is answered after a life, and which lives there are (this profile).
+-- What a step is answered after a life, and which lives there are.
 use Rattle.std.specs.Prelude.{if◌then◌else◌, ◌&&◌, ◌++◌, ◌+◌, ◌-◌, ◌^◌, ◌∷◌, ◌≡◌}
 use Rattle.pdc_life.specs.Names.{[], Bool, CellView, false, filter, is_near, length, List, list_all, list_any, map, max, MAX_PMUS, nat_le, nat_lt, None, not, Option, replicate, RowView, same_block, SectionFields, slice_get, Some, true, ℕ}
 use Rattle.pdc_life.specs.Arrival.{Arrival}

@@ -1,4 +1,4 @@
--- What arrives at a concentrator, as its bytes say it (this profile).
+-- What arrives at a concentrator, as its bytes say it.
 use Rattle.pdc_life.specs.Names.{List, Option, SectionFields, ℕ}
 use Rattle.pdc_life.specs.declared.outcome.Refusal.{Refusal}
 

@@ -1,4 +1,4 @@
--- The causes of refusal, each with its text and its number (this profile).
+-- The causes of refusal, each with its text and its number.
 use Rattle.std.specs.Prelude.{◌≡◌, ℕ, List, codes}
 use Rattle.pdc_row.specs.pdc_cfg.Texts.{cfg_fault}
 use Rattle.pdc_row.specs.pdc_frame.Texts.{frame_fault}

@@ -1,4 +1,4 @@
--- What a cell is in the data that gave it (this profile).
+-- What a cell is in the data that gave it.
 use Rattle.std.specs.Prelude.{◌++◌, ◌∷◌, ◌≡◌}
 use Rattle.pdc_life.specs.Lives.{Answer, Arrive, CellView, CoreKind, Data, drop, Entry, Given, held_layout, HeldLayout, IsBody, IsCut, IsLifeOf, List, map, OfMerger, OfNode, Says, section_in_force, SectionFields, Shape, slice_get, Some, stamp_words, Taken, ℕ}
 use Rattle.pdc_life.specs.Genuine.{HasGiven}

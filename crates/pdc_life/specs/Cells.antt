@@ -1,4 +1,4 @@
--- What holds of the cells that are taken (this profile).
+-- What holds of the cells that are taken.
 use Rattle.std.specs.Prelude.{◌≡◌}
 use Rattle.pdc_life.specs.Lives.{cell_of, CellView, Entry, Given, IsOfSectionInForce, IsRun, List, Some, ℕ}
 

@@ -1,4 +1,4 @@
--- What a core is, a node or the merger: all that their lives differ in (this profile).
+-- What a core is, a node or the merger: all that their lives differ in.
 use Rattle.std.specs.Prelude.{◌≡◌}
 use Rattle.pdc_life.specs.Names.{length, List, slice_get, Some, ℕ}
 use Rattle.pdc_life.specs.Answer.{IsLife, Rules}

@@ -1,4 +1,4 @@
--- The counters of a life, and what a core shows of them (this profile).
+-- The counters of a life, and what a core shows of them.
 use Rattle.std.specs.Prelude.{◌-◌, ◌^◌}
 use Rattle.pdc_life.specs.Names.{Bool, false, filter, length, List, min, true, ℕ}
 use Rattle.pdc_life.specs.Life.{Entry, Arrive, is_candidate, is_taken}

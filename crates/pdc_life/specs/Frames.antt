@@ -1,4 +1,4 @@
--- The frames of a life (this profile).
+-- The frames of a life.
 use Rattle.pdc_row.specs.Laws.{words_of_row}
 use Rattle.std.specs.Prelude.{◌<◌, ◌^◌, ◌∷◌, ◌≡◌, ◌≤◌}
 use Rattle.pdc_life.specs.Lives.{AllByRecursion, changes, closed, Entry, Given, IsCut, IsFrame, IsLayout, IsRun, IsTicked, layout_fields_of, layout_payload_of, List, map, MAX_PMUS, own_block, row_fields, row_payload, RowView, SectionFields, Shape, wire_of, ℕ}

@@ -1,4 +1,4 @@
--- Where the blocks of a row come from, and that what was taken is shown (this profile).
+-- Where the blocks of a row come from, and that what was taken is shown.
 use Rattle.std.specs.Prelude.{◌++◌, ◌<◌, ◌∷◌, ◌≡◌, ◌⊎◌}
 use Rattle.pdc_life.specs.Lives.{[], absent_view, AllByRecursion, Answer, Arrive, block_in, BlockView, cell_of, CellView, chosen_of, closed, columns_of, Contains, CoreKind, Data, Entry, filter_map, Given, is_present, IsLifeOf, IsRun, IsTicked, List, OfMerger, OfNode, Option, option_map, popped, row_of, RowView, section_in_force, SectionFields, Some, Taken, true, waiting, ℕ}
 use Rattle.pdc_life.specs.Laws.{IsRowOfTick}

@@ -1,4 +1,4 @@
--- What is given to a life (this profile).
+-- What is given to a life.
 use Rattle.std.specs.Prelude.{if◌then◌else◌, ◌==◌}
 use Rattle.pdc_life.specs.Names.{List, range_with_len, slice_index_or, ℕ}
 use Rattle.pdc_row.specs.declared.output.Output.{Output}

@@ -1,4 +1,4 @@
--- Data in time (this profile).
+-- Data in time.
 use Rattle.std.specs.Prelude.{◌*◌, ◌+◌, ◌<◌, ◌↔◌, ◌≡◌, ◌≤◌}
 use Rattle.pdc_life.specs.Lives.{AreBelow, CellView, closed, CoreKind, Data, Entry, Given, held_instants, held_layout, HeldLayout, is_near, last_of, length, List, list_all, None, now_of, OfMerger, OfNode, outcome_in_time, own_words, payload_len, row_instants, rules_of, section_in_force, SectionFields, Some, stamp_words, take_of, Taken, true, word_count_of, ℕ}
 

@@ -1,4 +1,4 @@
--- What holds of every life: rows, change numbers and counts (this profile).
+-- What holds of every life: rows, change numbers and counts.
 use Rattle.std.specs.Prelude.{if◌then◌else◌, ◌++◌, ◌+◌, ◌∷◌, ◌≡◌, ◌≤◌}
 use Rattle.pdc_life.specs.Lives.{AllByRecursion, changes, cleared_count, closed, closing, Contains, CoreKind, count_for, Entry, Given, is_adoption, is_due, IsLifeOf, IsRun, IsTicked, List, open_instants, popped, Rises, row_instants, row_of, RowView, section_in_force, SectionFields, Some, Tick, TickAnswer, true, waiting, ℕ}
 

@@ -1,4 +1,4 @@
--- The rules of the merger: two lanes, and a stream for each node, whose layouts say what its data means (this profile).
+-- The rules of the merger: two lanes, and a stream for each node, whose layouts say what its data means.
 use Rattle.std.specs.Prelude.{if◌then◌else◌, ◌&&◌, ◌*◌, ◌++◌, ◌+◌, ◌==◌, ◌||◌, ◌∷◌}
 use Rattle.pdc_life.specs.Names.{[], Bool, CellView, drop, false, length, List, list_any, map, nat_eq, nat_lt, None, not, Option, pointwise, SectionFields, Some, stamp_words, sum, take, word_count_of, words_in, ℕ}
 use Rattle.pdc_row.specs.declared.row_frame.TheConstants.{OWN_BLOCK_LEN}

@@ -1,4 +1,4 @@
--- What the bytes say that arrive from a node at the merger: all that needs no memory of what came before (this profile).
+-- What the bytes say that arrive from a node at the merger: all that needs no memory of what came before.
 use Rattle.std.specs.Prelude.{◌+◌, ◌<◌, ◌^◌, ◌∷◌, ◌≡◌, ◌⊎◌}
 use Rattle.pdc_life.specs.Names.{[], AllByRecursion, ConfigFields, List, map, None, own_bytes, Rises, SectionFields, slice_get, Some, WrongKind, ℕ}
 use Rattle.pdc_row.specs.declared.output.Nominal.TheVariants.{Hz50, Hz60}

@@ -1,4 +1,4 @@
--- The rules of a node: one lane, and a stream for each PMU (this profile).
+-- The rules of a node: one lane, and a stream for each PMU.
 use Rattle.std.specs.Prelude.{if◌then◌else◌, ◌*◌, ◌==◌, ◌∷◌}
 use Rattle.pdc_life.specs.Names.{[], CellView, length, List, nat_eq, nat_lt, None, not, Option, pointwise, SectionFields, Some, TooMany, word_count_of, words_in, ℕ}
 use Rattle.pdc_life.specs.Answer.{answer_in_time, bare}

@@ -1,4 +1,4 @@
--- What the bytes say that arrive for a PMU: all that needs no memory of what came before (this profile).
+-- What the bytes say that arrive for a PMU: all that needs no memory of what came before.
 use Rattle.std.specs.Prelude.{◌∷◌, ◌≡◌, ◌≢◌, ◌⊎◌}
 use Rattle.pdc_life.specs.Names.{[], ConfigFields, Cut, FloatFormat, length, List, None, SectionFields, TooMany, WrongKind, ℕ}
 use Rattle.pdc_row.specs.pdc_frame.Frame as frame

@@ -1,4 +1,4 @@
--- Steps make one life (this profile).
+-- Steps make one life.
 use Rattle.std.specs.Prelude.{◌++◌, ◌∷◌, ◌≡◌}
 use Rattle.pdc_life.specs.Lives.{[], AllByRecursion, Answer, answered, Arrival, Arrive, CoreKind, Entry, Given, IsLifeOf, IsReadStep, life_from, List, ReadsAs, ReadStep, Rules, rules_of, Says, SenderOf, Step, ℕ}
 use Rattle.pdc_life.specs.Answer.{IsLife, steps_of}

@@ -1,4 +1,4 @@
--- What a life publishes (this profile).
+-- What a life publishes.
 use Rattle.pdc_life.specs.Names.{filter_map, layout_wire_of, List, map, SectionFields, wire_of, ℕ}
 use Rattle.pdc_life.specs.Given.{Given, columns_of}
 use Rattle.pdc_life.specs.Life.{Entry, changes, section_in_force, popped}

@@ -1,4 +1,4 @@
--- When an open instant closes, and the row that it closes to (this profile).
+-- When an open instant closes, and the row that it closes to.
 use Rattle.std.specs.Prelude.{if◌then◌else◌, ◌+◌, ◌==◌, ◌||◌, ◌∷◌, [], false}
 use Rattle.pdc_life.specs.Names.{BlockView, Bool, CellView, filter, filter_map, is_some, List, list_all, map, nat_le, None, not, Option, option_map, quality_of, RowView, SectionFields, Some, time_quality_of, true, ℕ}
 use Rattle.pdc_row.specs.Chosen.{block_or_absent, first_of, present_of}

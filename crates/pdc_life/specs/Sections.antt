@@ -1,4 +1,4 @@
--- Where sections come from, and which are held (this profile).
+-- Where sections come from, and which are held.
 use Rattle.std.specs.Prelude.{◌++◌, ◌<◌, ◌∷◌, ◌≡◌, ◌≤◌}
 use Rattle.pdc_life.specs.Lives.{[], AllByRecursion, Answer, Arrive, Candidate, Contains, count_for, Entry, filter, flat_map, Given, held_layout, held_section, HeldLayout, is_of_column, IsLifeOf, IsRun, IsSection, IsTicked, Layout, List, map, MergerSettings, nat_le, None, OfMerger, OfNode, Option, section_in_force, SectionFields, sections_for, Settings, Some, Stamp, ℕ}
 

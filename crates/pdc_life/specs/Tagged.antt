@@ -1,4 +1,4 @@
--- The instants of a life's rows can be tagged (this profile).
+-- The instants of a life's rows can be tagged.
 use Rattle.std.specs.Prelude.{◌*◌, ◌<◌, ◌∷◌}
 use Rattle.pdc_life.specs.Lives.{AllByRecursion, AreBelow, closed, Entry, Given, IsRun, List, Pop, popped, row_instants, RowView, Some, waiting}
 

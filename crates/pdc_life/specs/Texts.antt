@@ -1,4 +1,4 @@
--- The text of each answer to an arrival (this profile).
+-- The text of each answer to an arrival.
 use Rattle.pdc_life.specs.Names.{codes, List, ℕ}
 pub use Rattle.pdc_life.specs.Causes.{refusal}
 use Rattle.pdc_life.specs.declared.outcome.Outcome.{Outcome}

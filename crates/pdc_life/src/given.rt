@@ -10,7 +10,7 @@ use crate::timing::Timing;
 use arrayvec::ArrayVec;
 use pdc_row::{MAX_PMUS, Output};
 
-/// The settings of a node, as far as its answers depend on them (this profile).
+/// The settings of a node, as far as its answers depend on them.
 #[derive(Debug, Drop)]
 pub struct Settings {
     /// What the frames say that it publishes.

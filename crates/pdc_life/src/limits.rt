@@ -1,4 +1,4 @@
-//! The limits of settings (this profile).
+//! The limits of settings.
 
 /// The longest wait, in ticks or instants.
 pub const MAX_WAIT: u64 = 1000;

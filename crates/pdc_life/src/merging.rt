@@ -20,7 +20,7 @@ pub struct MergedNode {
     pub ghost time_base_high: { time_base < COUNT_LIMIT },
 }
 
-/// The settings of the merger, as far as its answers depend on them (this profile).
+/// The settings of the merger, as far as its answers depend on them.
 #[derive(Debug, Drop)]
 pub struct MergerSettings {
     /// What the frames say that it publishes.

@@ -12,7 +12,7 @@ pub enum WaitKind {
     Absolute,
 }
 
-/// How long instants are held, and how far apart (this profile).
+/// How long instants are held, and how far apart.
 #[derive(Clone, Copy, Debug)]
 pub struct Timing {
     /// How long an open instant waits, 1 to 1000 ticks or instants.

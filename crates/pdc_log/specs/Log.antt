@@ -1,4 +1,4 @@
--- The life of a log, and what stands in it (this profile).
+-- The life of a log, and what stands in it.
 use Rattle.std.specs.Prelude.{◌≡◌, ℕ, suc, ◌==◌, if◌then◌else◌, List, [], ◌∷◌, ◌++◌, Option, Some, length}
 use mathlib.Core.List.{IsPrefix}
 use Rattle.pdc_life.specs.Answer.{ReadStep, Rules, ToArrive, ToPop, ToTick, life_from}

@@ -1,4 +1,4 @@
-//! The log of a running core, which stands in contracts alone: of it only the number of its steps is stored (this profile).
+//! The log of a running core, which stands in contracts alone: of it only the number of its steps is stored.
 //!
 //! The first type to look at is [`Log`], which lies under the lock; a caller has a [`Front`], a beginning of the log that it has seen.
 //!

@@ -1,4 +1,4 @@
--- The mark file, version 2 (this profile): 256 bytes, two slots of 128, each behind a gate.
+-- The mark file, version 2: 256 bytes, two slots of 128, each behind a gate.
 use Rattle.std.specs.Prelude.{◌≡◌, ◌⊎◌, ℕ, ◌+◌, ◌-◌, ◌<◌, ◌^◌, ◌==◌, if◌then◌else◌, Bool, true, not, List, ◌∷◌, ◌++◌, length, replicate, slice_index, slice_range, Option, Some, None}
 use Rattle.std.specs.Int.{w16, w32, w64, from_be_bytes, to_be_bytes}
 use Rattle.pdc_disk.specs.Disk.{AllSettled}

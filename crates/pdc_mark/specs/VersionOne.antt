@@ -1,4 +1,4 @@
--- The mark file, version 1 (this profile): 128 bytes, two slots of 64, each behind a gate. What stands behind a gate is what
+-- The mark file, version 1: 128 bytes, two slots of 64, each behind a gate. What stands behind a gate is what
 -- version 2 has there before the counts.
 use Rattle.std.specs.Prelude.{◌≡◌, ◌≢◌, ℕ, ◌+◌, if◌then◌else◌, List, ◌++◌, length, replicate, slice_range, Option, Some, None}
 use Rattle.pdc_disk.specs.Disk.{HasFailed}

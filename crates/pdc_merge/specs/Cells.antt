@@ -1,4 +1,4 @@
--- What data of a node gives under a held layout, by what is kept (this profile).
+-- What data of a node gives under a held layout, by what is kept.
 use Rattle.std.specs.Prelude.{ℕ, ◌+◌, ◌*◌, ◌==◌, Bool, false, ◌||◌, not, if◌then◌else◌, List, [], ◌∷◌, ◌++◌, drop, length, nat_eq, nat_lt, sum_by, take, Option, None, Some}
 use Rattle.std.specs.List.{list_all, list_any}
 use Rattle.std.specs.Cmp.Lexicographic.{pointwise}

@@ -1,4 +1,4 @@
--- What the merger keeps of the layouts that it holds of the nodes: a function of the life (this profile).
+-- What the merger keeps of the layouts that it holds of the nodes: a function of the life.
 use Rattle.std.specs.Prelude.{ℕ, ◌+◌, ◌<◌, ◌==◌, if◌then◌else◌, List, map, Option, Some, None, option_map}
 use Rattle.std.specs.List.{AllByRecursion}
 use Rattle.pdc_cfg.specs.Section.{SectionFields}

@@ -1,4 +1,4 @@
--- What contracts see of the merger, and the lives that it stands for (this profile).
+-- What contracts see of the merger, and the lives that it stands for.
 use Rattle.std.specs.Prelude.{◌≡◌, ℕ, ◌+◌, ◌<◌, List, length, map}
 use Rattle.std.specs.List.{AllByRecursion}
 use Rattle.pdc_cfg.specs.Section.{SectionFields}

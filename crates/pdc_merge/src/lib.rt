@@ -1,4 +1,4 @@
-//! The merger of a concentrator pair (this profile): it takes the published frames of both nodes and gives one row for each instant, so
+//! The merger of a concentrator pair: it takes the published frames of both nodes and gives one row for each instant, so
 //! that one node may be lost and no reader downstream sees it.
 //!
 //! The first type to look at is [`Merger`]: settings, an alignment of two lanes, the layouts that are held of both nodes, and counts of

@@ -26,7 +26,7 @@ use std::marker::Model;
 /// The lanes of the merger's table: one for each node.
 const LANES: usize = 2;
 
-/// The merger over a table (this profile). Stream 0 is node A's, stream 1 is node B's.
+/// The merger over a table. Stream 0 is node A's, stream 1 is node B's.
 #[derive(Drop)]
 pub struct Merger<T: Table> {
     settings: MergerSettings,

@@ -1,4 +1,4 @@
--- Which hosts a request to a server of the loopback may name (this profile).
+-- Which hosts a request to a server of the loopback may name.
 use Rattle.std.specs.Prelude.{◌≡◌, ℕ, List, ◌⊎◌, codes, map}
 use Rattle.std.specs.Char.{to_ascii_lowercase}
 

@@ -1,4 +1,4 @@
--- Which configurations are left out for their count (this profile).
+-- Which configurations are left out for their count.
 use Rattle.std.specs.Prelude.{◌≡◌, ◌||◌, ℕ, Bool, false, true, List, [], ◌∷◌, nat_lt}
 use Rattle.pdc_cfg.specs.Config.{ConfigFields, IsConfig}
 use Rattle.pdc_cfg.specs.Section.{SectionFields}

@@ -1,4 +1,4 @@
--- What destinations were handed (this profile).
+-- What destinations were handed.
 use Rattle.std.specs.Prelude.{◌≡◌, ◌≤◌, ◌+◌, refl, ℕ, List, [], length, Option, None, Some}
 use Rattle.std.specs.List.{flat_map}
 use Rattle.std.proofs.Common.{arith}

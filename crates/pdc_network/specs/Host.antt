@@ -1,4 +1,4 @@
--- The addresses of a host (this profile).
+-- The addresses of a host.
 use Rattle.std.specs.Prelude.{ℕ, nat_lt, if◌then◌else◌, List, [], ◌∷◌, ◌++◌, take}
 use Rattle.std.specs.declared.net.socket_addr.SocketAddr.{SocketAddr}
 use Rattle.pdc_network.specs.declared.addresses.Addresses.{Addresses}

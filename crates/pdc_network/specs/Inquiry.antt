@@ -1,4 +1,4 @@
--- When a sender is asked for its configuration again (this profile; STAT is IEEE C37.118.2-2011, 6.3 and table 7).
+-- When a sender is asked for its configuration again (STAT is IEEE C37.118.2-2011, 6.3 and table 7).
 use Rattle.std.specs.Prelude.{ℕ, ◌&&◌, ◌||◌, Bool, false, not, if◌then◌else◌, List, Option, None, Some}
 use Rattle.pdc_journal.specs.Head.{change_in}
 use Rattle.pdc_journal.specs.Moment.{is_long_ago, is_past}

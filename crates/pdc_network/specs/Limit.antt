@@ -1,4 +1,4 @@
--- The count above which configurations are left out (this profile).
+-- The count above which configurations are left out.
 use Rattle.std.specs.Prelude.{ℕ, Option, None, Some}
 use Rattle.pdc_network.specs.declared.count_limit.CountLimit.{CountLimit}
 

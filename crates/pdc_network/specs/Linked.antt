@@ -1,4 +1,4 @@
--- What came by the way of a link (this profile).
+-- What came by the way of a link.
 use Rattle.std.specs.Prelude.{List}
 use Rattle.pdc_ports.specs.Heard.{Heard}
 use Rattle.pdc_network.specs.Received.{Received, HasGiven}

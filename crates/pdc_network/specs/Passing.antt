@@ -1,4 +1,4 @@
--- What a limit of configuration counts lets pass of what a source says (this profile).
+-- What a limit of configuration counts lets pass of what a source says.
 use Rattle.std.specs.Prelude.{◌≡◌, ◌⊎◌, ℕ, List, [], ◌∷◌, Option, Some}
 use Rattle.std.specs.List.{flat_map}
 use Rattle.pdc_ports.specs.Heard.{Heard, Gave}

@@ -1,4 +1,4 @@
--- What calls of the system that receive a datagram answered, and what a source makes of it (this profile).
+-- What calls of the system that receive a datagram answered, and what a source makes of it.
 use Rattle.std.specs.Prelude.{◌≡◌, ℕ, ◌+◌, ◌*◌, ◌^◌, ◌==◌, Bool, true, false, if◌then◌else◌, List, [], ◌∷◌, take, Option, None, Some, Result, Ok, Err}
 use Rattle.std.specs.List.{flat_map}
 use Rattle.std.specs.IoError.{error_kind}

@@ -1,4 +1,4 @@
--- Which address of a host is tried next (this profile).
+-- Which address of a host is tried next.
 use Rattle.std.specs.Prelude.{◌≡◌, refl, ℕ, ◌+◌, nat_le, if◌then◌else◌}
 
 -- of so many, counted from 0: behind the last one comes the first

@@ -1,4 +1,4 @@
--- What calls of the system that send a datagram were handed, and what they answered (this profile).
+-- What calls of the system that send a datagram were handed, and what they answered.
 use Rattle.std.specs.Prelude.{◌≡◌, refl, ℕ, ℤ, pos, ◌==◌, if◌then◌else◌, List, [], ◌∷◌, length, map, ⊤, Option, None, Some, Result, Ok, Err}
 use Rattle.std.specs.List.{All}
 use Rattle.std.specs.declared.net.socket_addr.SocketAddr.{SocketAddr}

@@ -1,5 +1,5 @@
 //! Where a running concentrator has its datagrams from, and where it sends its frames, by UDP and TCP; and `pdc listen`, a line of
-//! hexadecimal for each datagram that comes to a port (this profile).
+//! hexadecimal for each datagram that comes to a port.
 //!
 //! [`UdpSource`] and [`UdpSink`] are a `Source` and a `Sink` of `pdc_ports`, over any [`Receive`] and [`SendTo`], which tell what each call of
 //! the system was handed and answered: what was received and is no stranger's is given, once, in order; each frame is handed to its socket

@@ -1,4 +1,4 @@
-//! A node of a concentrator pair (this profile): it takes the streams of PMUs, aligns them by time tag and gives one row for each
+//! A node of a concentrator pair: it takes the streams of PMUs, aligns them by time tag and gives one row for each
 //! instant.
 //!
 //! The first type to look at is [`Node`]: settings, an alignment, and counts of how arrivals were answered. Its calls are those of a

@@ -25,7 +25,7 @@ use pdc_table::{DueRow, Table};
 use std::alloc::{AllocError, Global};
 use std::marker::Model;
 
-/// A node over a table (this profile).
+/// A node over a table.
 #[derive(Drop)]
 pub struct Node<T: Table> {
     settings: Settings,

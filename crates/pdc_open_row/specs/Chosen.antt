@@ -1,4 +1,4 @@
--- The block that a column gives to the row of its instant, and whether its lanes disagree (this profile).
+-- The block that a column gives to the row of its instant, and whether its lanes disagree.
 use Rattle.std.specs.Prelude.{ℕ, ◌+◌, Bool, not, false, if◌then◌else◌, List, [], ◌∷◌, Option, Some, None}
 use Rattle.pdc_row.specs.pdc_cfg.declared.shape.Shape.{Shape}
 use Rattle.pdc_row.specs.Chosen.{block_or_absent, first_of, present_of}

@@ -1,4 +1,4 @@
--- When an open instant is due (this profile).
+-- When an open instant is due.
 use Rattle.std.specs.Prelude.{ℕ, Bool, true, false, ◌&&◌, ◌||◌, not, nat_le, List, [], ◌∷◌, Option, Some, None}
 use Rattle.pdc_open_row.specs.Views.{OpenRowView}
 use Rattle.pdc_open_row.specs.declared.wait_rule.WaitRule.{WaitRule}

@@ -1,4 +1,4 @@
--- The layout under which rows close (this profile).
+-- The layout under which rows close.
 use Rattle.std.specs.Prelude.{ℕ, List, Option}
 use Rattle.pdc_row.specs.pdc_cfg.declared.shape.Shape.{Shape}
 use Rattle.pdc_open_row.specs.declared.row_layout.RowLayout.{RowLayout}

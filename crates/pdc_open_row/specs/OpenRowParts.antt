@@ -1,4 +1,4 @@
--- What the lists of an open row show together: which lanes hold a cell, and the cells of each lane (this profile).
+-- What the lists of an open row show together: which lanes hold a cell, and the cells of each lane.
 use Rattle.std.specs.Prelude.{ℕ, zero, suc, ◌==◌, false, if◌then◌else◌, List, [], ◌∷◌, Option, Some, None}
 use Rattle.pdc_row.specs.CellView.{CellView}
 use Rattle.pdc_open_row.specs.Views.{ColumnView, kept}

@@ -1,4 +1,4 @@
--- Blocks that lie one after the other in the bytes of a payload (this profile).
+-- Blocks that lie one after the other in the bytes of a payload.
 use Rattle.std.specs.Prelude.{ℕ, ◌*◌, List, [], ◌∷◌, drop, sum_by, take}
 use Rattle.pdc_row.specs.pdc_cfg.Shape.{word_count_of}
 use Rattle.pdc_row.specs.pdc_cfg.declared.shape.Shape.{Shape}

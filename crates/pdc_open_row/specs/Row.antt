@@ -1,4 +1,4 @@
--- The row of an instant: what a closed row shows (this profile).
+-- The row of an instant: what a closed row shows.
 use Rattle.std.specs.Prelude.{ℕ, ◌++◌, List, [], ◌∷◌, Option, Some, None}
 use Rattle.std.specs.Option.{option_map, option_to_list}
 use Rattle.pdc_row.specs.pdc_cfg.declared.shape.Shape.{Shape}

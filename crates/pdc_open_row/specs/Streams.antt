@@ -1,4 +1,4 @@
--- The streams of a row (this profile).
+-- The streams of a row.
 use Rattle.std.specs.Prelude.{ℕ, ◌==◌, if◌then◌else◌}
 
 -- With one lane each stream writes its own column; with two there are two streams, and each writes its lane.

@@ -1,4 +1,4 @@
--- What a frame is answered at the row of its instant, and what it makes of it where it is taken (this profile).
+-- What a frame is answered at the row of its instant, and what it makes of it where it is taken.
 use Rattle.std.specs.Prelude.{ℕ, ◌==◌, Bool, true, false, not, if◌then◌else◌, List, [], ◌∷◌, map, Option, Some, None, slice_set, slice_index_or}
 use Rattle.std.specs.List.{list_any}
 use Rattle.pdc_row.specs.pdc_block.declared.block.Block.{Block}

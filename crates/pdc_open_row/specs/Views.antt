@@ -1,4 +1,4 @@
--- What an open instant holds, however a table keeps it (this profile).
+-- What an open instant holds, however a table keeps it.
 use Rattle.std.specs.Prelude.{ℕ, Bool, false, if◌then◌else◌, List, replicate, Option, None, Some}
 use Rattle.pdc_row.specs.CellView.{CellView}
 

@@ -1,4 +1,4 @@
-//! The row of an instant that is open: what was taken of each stream, and when it closes, and to what (this profile).
+//! The row of an instant that is open: what was taken of each stream, and when it closes, and to what.
 //!
 //! `OpenRow` is one row, whose owner keeps its age and its place among others. It takes the blocks of a frame wherever their words
 //! lie (`Blocks`), and closes under a layout (`RowLayout`).

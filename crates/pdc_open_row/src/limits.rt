@@ -1,4 +1,4 @@
-//! How large a table may be (this profile).
+//! How large a table may be.
 use pdc_row::MAX_PMUS;
 
 /// The most columns: one for each PMU.

@@ -3,7 +3,7 @@ use crate::{MAX_COLUMNS, copy_items};
 use arrayvec::ArrayVec;
 use pdc_row::{CopyFrom, Shape};
 
-/// The layout under which rows close (this profile): its stamp, and a shape or nothing for each column.
+/// The layout under which rows close: its stamp, and a shape or nothing for each column.
 #[derive(Debug, Drop)]
 pub struct RowLayout {
     /// The start number of the stamp.

@@ -1,7 +1,7 @@
 //! When the wait of an open instant is over.
 ghost use Rattle.std.specs.Prelude.{◌≡◌};
 
-/// How a tick tells that the wait of an open instant is over (this profile).
+/// How a tick tells that the wait of an open instant is over.
 #[derive(Clone, Copy, Debug, PartialEq, Eq)]
 pub enum WaitRule {
     /// Its age, this tick counted, is at least so many ticks.

@@ -1,4 +1,4 @@
--- The frame of a layout (this profile).
+-- The frame of a layout.
 use Rattle.std.specs.Prelude.{◌≡◌, ℕ, List}
 use Rattle.pdc_life.specs.Given.{Given}
 use Rattle.pdc_life.specs.Life.{Entry}

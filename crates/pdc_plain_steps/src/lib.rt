@@ -1,4 +1,4 @@
-//! The steps of a concentrator so far, node or merger, with their answers: what they say, and what ticks and pops do (this profile).
+//! The steps of a concentrator so far, node or merger, with their answers: what they say, and what ticks and pops do.
 //!
 //! Nothing is kept but the list of the steps, newest first, and each question is asked of the whole list. It is meant to be
 //! read: each function is one definition of pdc_life, and its contract says so. It goes down the list by recursion, time and

@@ -1,4 +1,4 @@
--- How a script ends, and with which exit status (this profile).
+-- How a script ends, and with which exit status.
 use Rattle.std.specs.Prelude.{ℕ}
 use Rattle.pdc_history.specs.declared.event_fault.Fault.TheVariants as fault
 use Rattle.pdc_play.specs.declared.ending.Ending.{Ending}

@@ -1,4 +1,4 @@
--- Lines of a script of events, and what each asks of a world (this profile).
+-- Lines of a script of events, and what each asks of a world.
 use Rattle.std.specs.Prelude.{◌≡◌, refl, ℕ, Bool, true, false, if◌then◌else◌, List, [], ◌∷◌, Option, None, Some, option_map, codes}
 use Rattle.std.specs.Option.{option_and_then}
 use Rattle.std.specs.Result.{result_ok}

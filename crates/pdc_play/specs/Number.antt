@@ -1,4 +1,4 @@
--- Numbers of scripts (this profile): decimal digits alone, of a number of at most 64 bits.
+-- Numbers of scripts: decimal digits alone, of a number of at most 64 bits.
 use Rattle.std.specs.Prelude.{◌≡◌, refl, ℕ, ◌+◌, ◌-◌, ◌*◌, ◌^◌, ◌&&◌, nat_le, nat_lt, if◌then◌else◌, List, [], ◌∷◌, Option, None, Some, codes}
 use Rattle.std.specs.Option.{option_and_then}
 

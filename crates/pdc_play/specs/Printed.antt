@@ -1,4 +1,4 @@
--- What is printed of replies and faults (this profile): a line each.
+-- What is printed of replies and faults: a line each.
 use Rattle.std.specs.Prelude.{◌≡◌, refl, ℕ, Bool, true, false, List, [], ◌∷◌, ◌++◌, Option, None, Some, if◌then◌else◌, codes}
 use Rattle.std.specs.Fmt.{decimal, digits}
 use Rattle.hex.specs.Hex.{encode_upper, encode_with}

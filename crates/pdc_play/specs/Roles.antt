@@ -1,4 +1,4 @@
--- Settings of either kind, and which three a world is made of (this profile).
+-- Settings of either kind, and which three a world is made of.
 use Rattle.std.specs.Prelude.{◌≡◌, Option, Some, None, true, false}
 use Rattle.toml.specs.Data.{Members}
 use Rattle.pdc_settings.specs.Kind.{is_merger}

@@ -1,4 +1,4 @@
--- A run of a script (this profile): where it stands behind the bytes that were read, and what comes of more.
+-- A run of a script: where it stands behind the bytes that were read, and what comes of more.
 use Rattle.std.specs.Prelude.{◌≡◌, ℕ, List, ◌++◌, length, Option, None, Some, Result, Ok, Err}
 use Rattle.std.specs.Io.KnownBytes.{Appends, Consumes, IsAtEnd}
 use Rattle.pdc_history.specs.declared.event_fault.Fault.{Fault}

@@ -1,4 +1,4 @@
--- A script that is played line by line (this profile): what is printed of it, and where it ends. What an event replies, why it is refused,
+-- A script that is played line by line: what is printed of it, and where it ends. What an event replies, why it is refused,
 -- and which frames were sent is the player's; the definitions here are of any player.
 use Rattle.std.specs.Prelude.{◌≡◌, ◌⊎◌, ℕ, ◌+◌, ◌-◌, ◌^◌, ◌<◌, ◌==◌, min, Bool, false, List, [], ◌∷◌, ◌++◌, length, Option, None, Some, unwrap_or}
 use Rattle.std.specs.List.{list_any}

@@ -1,4 +1,4 @@
--- What a script sees of a world (this profile).
+-- What a script sees of a world.
 use Rattle.std.specs.Prelude.{ℕ, List, Option}
 use Rattle.std.specs.List.{slice_get}
 use Rattle.pdc_history.specs.declared.event_fault.Fault.{Fault}

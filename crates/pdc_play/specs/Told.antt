@@ -1,4 +1,4 @@
--- A script that is told by a history (this profile): what is printed of it follows from the settings and the script alone.
+-- A script that is told by a history: what is printed of it follows from the settings and the script alone.
 use Rattle.std.specs.Prelude.{◌≡◌, ◌⊎◌, ℕ, List, [], ◌∷◌, Option, None, Some}
 use Rattle.std.specs.Io.KnownBytes.{Appends, Consumes}
 use Rattle.std.specs.List.{AllByRecursion, slice_get}

@@ -1,4 +1,4 @@
--- Words of a line of a script: they stand apart by one space (this profile).
+-- Words of a line of a script: they stand apart by one space.
 use Rattle.std.specs.Prelude.{◌≡◌, refl, ℕ, ◌+◌, ◌==◌, Bool, List, take, drop, Option, None, Some, codes, position}
 
 abbrev pub is_space : ℕ → Bool

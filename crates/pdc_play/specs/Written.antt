@@ -1,4 +1,4 @@
--- What a line that was read asks (this profile).
+-- What a line that was read asks.
 use Rattle.std.specs.Prelude.{Option, Some, None}
 use Rattle.pdc_history.specs.Handed.{asked_of, who_of}
 use Rattle.pdc_history.specs.Asked.{Asked, Send, Junk}

@@ -1,4 +1,4 @@
-//! `pdc play`: a script of events, played line by line (this profile).
+//! `pdc play`: a script of events, played line by line.
 //!
 //! [`run_script`] is the whole run over any reader and writer, and over whatever [`Plays`] events. Its promise to the layers above: what is
 //! printed is the line of each event's reply, up to the first event that is refused or line that is none, and what is told of that one.

@@ -1,4 +1,4 @@
--- What a source says when it is asked for a datagram (this profile).
+-- What a source says when it is asked for a datagram.
 use Rattle.std.specs.Prelude.{ℕ, List, ◌++◌, take}
 use Rattle.pdc_ports.specs.declared.source.Next.{Next}
 use Rattle.pdc_ports.specs.declared.source.Next.TheVariants.{Datagram, Idle, End, Fault, Stuck}

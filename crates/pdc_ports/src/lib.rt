@@ -1,4 +1,4 @@
-//! What a running concentrator has of the world outside (this profile): a [`Source`] of datagrams, a [`Sink`] of frames, and a [`Ticker`].
+//! What a running concentrator has of the world outside: a [`Source`] of datagrams, a [`Sink`] of frames, and a [`Ticker`].
 //!
 //! Threads, sockets and tests meet these three; so what sends by UDP needs no threads, and the threads no UDP. The promise to the
 //! layers above is in the contracts of the traits: whatever meets them, a datagram lies within its buffer, a source does not give

@@ -1,4 +1,4 @@
--- A published frame (this profile).
+-- A published frame.
 use Rattle.std.specs.Prelude.{◌≡◌, ◌*◌, ◌<◌, ◌≤◌, ℕ, [], List, length, map}
 use Rattle.pdc_frame.specs.declared.tag_limits.TheConstants.{SECONDS}
 use Rattle.pdc_row.specs.CellView.{BlockView}

@@ -1,4 +1,4 @@
--- What a publisher keeps (this profile).
+-- What a publisher keeps.
 use Rattle.std.specs.Prelude.{ℕ, Bool}
 use Rattle.pdc_mark.specs.declared.mark.Mark.{Ghosts}
 use Rattle.pdc_row.specs.declared.output.Output.{Output}

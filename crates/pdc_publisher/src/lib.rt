@@ -1,5 +1,5 @@
 //! Publishing: the data frame of each closed row goes out, and before it the floor of the mark is raised, so that no later
-//! life publishes the instant again (this profile).
+//! life publishes the instant again.
 //!
 //! The first type to look at is [`Publisher`]. It reserves some instants ahead, so that most frames need no store: a restart
 //! then loses at most the instants reserved.

@@ -7,7 +7,7 @@ ghost use Rattle.pdc_publisher.specs.Published.{IsOfSomeRow, IsRowFrame, no_row}
 use arrayvec::ArrayVec;
 use pdc_row::{DueRow, MAX_ROW_LEN, Output, append_row, write_row};
 
-/// The data frame of a row that was published (this profile; C37.118.2-2011, 6.3).
+/// The data frame of a row that was published (C37.118.2-2011, 6.3).
 #[derive(Drop)]
 pub struct Published {
     /// What the concentrator says of itself that published it.

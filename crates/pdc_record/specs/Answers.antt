@@ -1,4 +1,4 @@
--- The number of an answer in an entry (this profile).
+-- The number of an answer in an entry.
 use Rattle.std.specs.Prelude.{ℕ, ◌+◌}
 use Rattle.pdc_life.specs.Causes.{number_of}
 use Rattle.pdc_life.specs.declared.outcome.Outcome.{Outcome}

@@ -1,4 +1,4 @@
--- What stands between TIME and CHK of an entry (this profile): a fixed part, and then a datagram, a frame or a settings text.
+-- What stands between TIME and CHK of an entry: a fixed part, and then a datagram, a frame or a settings text.
 use Rattle.std.specs.Prelude.{◌≡◌, ℕ, ◌^◌, ◌<◌, Bool, true, false, List, [], ◌∷◌, ◌++◌, length, slice_index, Option, Some, None}
 use Rattle.std.specs.List.{flat_map}
 use Rattle.std.specs.Int.{w16, w32, w64, to_be_bytes}

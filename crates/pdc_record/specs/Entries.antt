@@ -1,4 +1,4 @@
--- The spelling of an entry (this profile): LEN, KIND, STEP, TIME, the body and CHK. LEN counts the whole entry. And what bytes begin with.
+-- The spelling of an entry: LEN, KIND, STEP, TIME, the body and CHK. LEN counts the whole entry. And what bytes begin with.
 use Rattle.std.specs.Prelude.{◌≡◌, ◌≢◌, ◌⊎◌, ℕ, ◌+◌, ◌-◌, ◌^◌, ◌<◌, ◌≤◌, List, ◌∷◌, ◌++◌, length, take}
 use Rattle.std.specs.Int.{w16, w32, w64, to_be_bytes}
 use Rattle.pdc_frame.specs.Bytes.{word_at, long_at}

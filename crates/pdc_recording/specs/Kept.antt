@@ -1,4 +1,4 @@
--- What is kept of a datagram in a record (this profile).
+-- What is kept of a datagram in a record.
 use Rattle.std.specs.Prelude.{◌≡◌, refl, ℕ, Bool, true, false, nat_le}
 use Rattle.pdc_record.specs.pdc_life.declared.outcome.Outcome.{Outcome}
 use Rattle.pdc_record.specs.pdc_life.declared.outcome.Outcome.TheVariants.{Refused, Taken}

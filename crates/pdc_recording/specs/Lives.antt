@@ -1,4 +1,4 @@
--- Which records of lives that are over are removed (this profile).
+-- Which records of lives that are over are removed.
 use Rattle.std.specs.Prelude.{◌≡◌, refl, ℕ, ◌+◌, Bool, true, false, List, [], ◌∷◌, nat_le, nat_lt}
 use Rattle.std.specs.List.{prefix_len}
 

@@ -1,4 +1,4 @@
--- What a record lacks that could not be written, and when it is tried again (this profile).
+-- What a record lacks that could not be written, and when it is tried again.
 use Rattle.std.specs.Prelude.{◌≡◌, refl, ℕ, Bool, Option, None, Some, nat_lt, if◌then◌else◌}
 use Rattle.pdc_journal.specs.Moment.{is_past}
 use Rattle.pdc_journal.specs.declared.moment.Moment.{Moment}

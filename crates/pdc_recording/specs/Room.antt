@@ -1,4 +1,4 @@
--- How much of a record waits in memory (this profile).
+-- How much of a record waits in memory.
 use Rattle.std.specs.Prelude.{◌≡◌, refl, ℕ, ◌+◌, Bool, true, false, nat_le}
 use Rattle.pdc_recording.specs.declared.room.TheConstants.{MOST_BYTES}
 

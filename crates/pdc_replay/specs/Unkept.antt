@@ -1,4 +1,4 @@
--- What is taken from its entry, since its datagram was not kept whole (this profile).
+-- What is taken from its entry, since its datagram was not kept whole.
 use Rattle.pdc_life.specs.declared.outcome.Outcome.{Outcome}
 use Rattle.pdc_life.specs.declared.outcome.Outcome.TheVariants.{Refused}
 use Rattle.pdc_life.specs.declared.outcome.Refusal.TheVariants.{NoFrame}

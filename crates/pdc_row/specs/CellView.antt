@@ -1,4 +1,4 @@
--- What contracts see of a block and of a cell (this profile).
+-- What contracts see of a block and of a cell.
 use Rattle.std.specs.Prelude.{ℕ, ◌==◌, Bool, ◌&&◌, not, List, nat_eq}
 use Rattle.std.specs.Cmp.Lexicographic.{pointwise}
 use Rattle.pdc_block.specs.pdc_cfg.declared.shape.Shape.{Shape}

@@ -1,4 +1,4 @@
--- The block that is chosen among those that were taken (this profile).
+-- The block that is chosen among those that were taken.
 use Rattle.std.specs.Prelude.{Option, Some, None, if◌then◌else◌}
 use Rattle.pdc_block.specs.pdc_cfg.declared.shape.Shape.{Shape}
 use Rattle.pdc_row.specs.CellView.{BlockView, CellView, absent_view, is_present}

@@ -1,4 +1,4 @@
--- What holds of the frames that go out (this profile).
+-- What holds of the frames that go out.
 use Rattle.std.specs.Prelude.{◌≡◌, ℕ, ◌*◌, ◌^◌, ◌<◌, ◌≤◌, List, ◌∷◌, length, map}
 use Rattle.std.specs.List.{AllByRecursion}
 use Rattle.pdc_row.specs.pdc_frame.Frame.{IsFrame}

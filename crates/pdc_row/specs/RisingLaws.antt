@@ -1,4 +1,4 @@
--- What holds of rising numbers (this profile).
+-- What holds of rising numbers.
 use Rattle.std.specs.Prelude.{◌≡◌, ℕ, ◌+◌, ◌<◌, ◌≤◌, ◌++◌, Bool, true, ◌&&◌, nat_lt, List, [], ◌∷◌, filter, length, slice_index_or}
 use Rattle.std.specs.List.{list_all, slice_get}
 use Rattle.pdc_row.specs.Quality.{greatest}

@@ -1,4 +1,4 @@
--- What a contract sees of a closed row (this profile).
+-- What a contract sees of a closed row.
 use Rattle.std.specs.Prelude.{ℕ, List, map}
 use Rattle.pdc_row.specs.CellView.{BlockView, block_view}
 use Rattle.pdc_row.specs.declared.due_row.DueRow.{DueRow}

@@ -8,7 +8,7 @@ use arrayvec::ArrayVec;
 use pdc_block::Block;
 use std::alloc::AllocError;
 
-/// The row of an instant that is closed (this profile).
+/// The row of an instant that is closed.
 #[derive(Debug, Drop)]
 pub struct DueRow {
     /// The instant.

@@ -1,4 +1,4 @@
-//! The configuration frame of a layout (this profile; C37.118.2-2011, 6.4).
+//! The configuration frame of a layout (C37.118.2-2011, 6.4).
 ghost use Rattle.std.specs.Prelude.{◌≡◌, ◌+◌, ◌≤◌, ◌++◌, ◌∷◌, map, length, IsOk, OnOk, OnErr};
 ghost use Rattle.std.specs.Int.{w16, cast_unsigned};
 ghost use Rattle.pdc_row.specs.pdc_frame.Frame.{IsFrame};

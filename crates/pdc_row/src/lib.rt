@@ -1,4 +1,4 @@
-//! The row of an instant: a block for each PMU, and how good the clocks were that dated them (this profile).
+//! The row of an instant: a block for each PMU, and how good the clocks were that dated them.
 //!
 //! Here stand the words that a table of rows, the life of a node and the frames of a concentrator share: what a cell and a
 //! row show, which block is chosen, the quality of a row, and numbers in rising order. And here rows and layouts become the

@@ -13,7 +13,7 @@ pub enum Nominal {
     Hz60,
 }
 
-/// What the frames say that a concentrator publishes (this profile).
+/// What the frames say that a concentrator publishes.
 #[derive(Clone, Copy, Debug)]
 pub struct Output {
     /// The id of the stream.

@@ -5,7 +5,7 @@ ghost use Rattle.pdc_row.specs.CellView.{block_view, is_present};
 
 use pdc_block::{Block, Shape, are_absent};
 
-/// Whether the block is any other than the absent block of its shape, whoever sent it (this profile).
+/// Whether the block is any other than the absent block of its shape, whoever sent it.
 pub fn is_present(block: &Block) -> bool
     ensures { result ≡ is_present (block_view block.now) }
 {

@@ -1,4 +1,4 @@
-//! The data frame of a closed row (this profile; C37.118.2-2011, 6.3).
+//! The data frame of a closed row (C37.118.2-2011, 6.3).
 ghost use Rattle.std.specs.Prelude.{◌≡◌, ◌+◌, ◌*◌, ◌<◌, ◌≤◌, ◌++◌, [], length, sum_by, IsOk, OnOk, OnErr};
 ghost use Rattle.pdc_row.specs.pdc_frame.Frame.{IsFrame, fields_of};
 ghost use Rattle.pdc_row.specs.pdc_frame.declared.frame.Kind.TheVariants.{DataFrame};

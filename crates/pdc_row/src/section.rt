@@ -1,4 +1,4 @@
-//! What a concentrator says of itself in its layout (this profile; C37.118.2-2011, table 9).
+//! What a concentrator says of itself in its layout (C37.118.2-2011, table 9).
 ghost use Rattle.std.specs.Prelude.{◌≡◌, ◌+◌, ◌*◌, ◌/◌, ◌%◌, ◌^◌, ◌<◌, ◌≤◌, ◌++◌, [], ◌∷◌, length, replicate, false};
 ghost use Rattle.std.specs.Int.{w16, to_be_bytes};
 ghost use Rattle.std.specs.List.{flat_map};

@@ -1,4 +1,4 @@
-//! The stamp of a layout, as data and sections carry it (this profile).
+//! The stamp of a layout, as data and sections carry it.
 ghost use Rattle.std.specs.Prelude.{◌≡◌, ◌%◌, ◌^◌};
 ghost use Rattle.pdc_row.specs.Layout.{stamp_words};
 

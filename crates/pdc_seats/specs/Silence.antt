@@ -1,4 +1,4 @@
--- Which consumer gives way where all places are taken (this profile).
+-- Which consumer gives way where all places are taken.
 use Rattle.std.specs.Prelude.{◌≡◌, refl, ℕ, ◌+◌, ◌==◌, ◌&&◌, Bool, true, false, nat_le, List, [], ◌∷◌, if◌then◌else◌, Option, Some, None}
 use Rattle.pdc_seats.specs.declared.silence.Silence.{Silence}
 

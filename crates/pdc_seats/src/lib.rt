@@ -1,4 +1,4 @@
-//! The places of a concentrator's sessions: who has one, who gives way where all are taken, and who hears of it (this profile).
+//! The places of a concentrator's sessions: who has one, who gives way where all are taken, and who hears of it.
 //!
 //! The type to look at first is [`Seats`]: of each place that is taken, since when its consumer has neither sent nor got anything. [`Porter`]
 //! hears that all are taken, and of consumers that are disconnected, each with why ([`Leaving`]).

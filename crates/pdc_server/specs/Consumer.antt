@@ -1,4 +1,4 @@
--- A consumer that is connected (this profile).
+-- A consumer that is connected.
 use Rattle.std.specs.Prelude.{ℕ, Bool, ◌&&◌, not}
 use Rattle.pdc_session.specs.Session.{SessionView}
 use Rattle.pdc_server.specs.Turn.{Standing}

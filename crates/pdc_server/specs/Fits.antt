@@ -1,4 +1,4 @@
--- That data frames fit the configuration that was sent before them (this profile).
+-- That data frames fit the configuration that was sent before them.
 use Rattle.std.specs.Prelude.{◌≡◌, ◌⊎◌, refl, ℕ, Bool, true, false, List, [], ◌∷◌, ◌++◌, map, Option, Some, None}
 use mathlib.Core.Logic.{inl, inr}
 use Rattle.pdc_session.specs.Recent.{Kept}

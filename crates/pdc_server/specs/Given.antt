@@ -1,4 +1,4 @@
--- What a reader of the recent frames is given (this profile).
+-- What a reader of the recent frames is given.
 use Rattle.std.specs.Prelude.{◌≡◌, ◌⊎◌, refl, ℕ, List, [], ◌∷◌, ◌++◌}
 use Rattle.pdc_session.specs.Recent.{AreAbove, AreRising, Kept, bytes_of, greatest_of}
 use Rattle.pdc_server.specs.Places.{Takes}

@@ -1,4 +1,4 @@
--- The text of the header frame (this profile; C37.118.2-2011, 6.3 leaves it free).
+-- The text of the header frame (C37.118.2-2011, 6.3 leaves it free).
 use Rattle.std.specs.Prelude.{◌≡◌, refl, ℕ, ◌/◌, List, [], ◌∷◌}
 use Rattle.pdc_row.specs.Layout.{digit}
 

@@ -1,4 +1,4 @@
--- What a publisher sends is what is kept (this profile).
+-- What a publisher sends is what is kept.
 use Rattle.std.specs.Prelude.{◌≡◌, ◌*◌, ◌^◌, ◌<◌, ◌≤◌, List, length}
 use Rattle.pdc_block.specs.Block.{AreOfShapes}
 use Rattle.pdc_cfg.specs.declared.shape.Shape.{Shape}

@@ -1,4 +1,4 @@
--- Where a consumer stands in the stream (this profile).
+-- Where a consumer stands in the stream.
 use Rattle.std.specs.Prelude.{◌≡◌, ℕ, Bool, true, false, List, [], ◌∷◌, if◌then◌else◌, Option, Some, None}
 use Rattle.pdc_server.specs.Stamps.{is_stamp}
 use Rattle.pdc_server.specs.declared.place.Place.{Place}

@@ -1,4 +1,4 @@
--- What is kept of a stream under one lock (this profile).
+-- What is kept of a stream under one lock.
 use Rattle.std.specs.Prelude.{◌≡◌, ◌⊎◌, ℕ, Bool, true, false, List, [], ◌++◌, if◌then◌else◌, None}
 use Rattle.pdc_session.specs.Recent.{RecentView, above, bytes_of, greatest_of, is_old, pushed}
 use Rattle.pdc_server.specs.Places.{takes}

@@ -1,4 +1,4 @@
--- The stamp of a layout (this profile).
+-- The stamp of a layout.
 use Rattle.std.specs.Prelude.{ℕ, Bool, ◌&&◌, nat_eq}
 use Rattle.pdc_server.specs.declared.stamp.Stamp.{Stamp}
 

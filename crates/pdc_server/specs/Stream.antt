@@ -1,4 +1,4 @@
--- The frames of one stream (this profile).
+-- The frames of one stream.
 use Rattle.std.specs.Prelude.{◌≡◌, ℕ, List, [], ◌∷◌, ◌++◌, Some}
 use Rattle.std.specs.Int.{w16, cast_unsigned}
 use Rattle.pdc_frame.specs.Frame.{Fields, IsFrame}

@@ -1,4 +1,4 @@
--- One turn with a consumer (this profile).
+-- One turn with a consumer.
 use Rattle.std.specs.Prelude.{◌≡◌, ◌⊎◌, ℕ, ◌<◌, ◌≤◌, List, [], ◌∷◌, length, take, Option, Some, None, Bool, true, false, not}
 use Rattle.std.specs.Io.KnownBytes.{Appends, Consumes, IsAtEnd, Keeps}
 use Rattle.pdc_cfg.specs.Config.{config_fields_of}

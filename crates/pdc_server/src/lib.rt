@@ -1,5 +1,5 @@
 //! Sessions of a running concentrator: a consumer connects, asks for the header, the configuration or the data, and is served turn by
-//! turn (this profile; the commands are those of C37.118.2-2011, table 15).
+//! turn (the commands are those of C37.118.2-2011, table 15).
 //!
 //! [`Consumer`] is the type to look at first: one session over any reader and writer. [`serve`] accepts connections and serves one after
 //! the other. [`Recent`] has what the concentrator sent last, under one lock, and [`RememberingSink`] keeps it there as it is sent.

@@ -1,4 +1,4 @@
--- How a run is over that began with what a mark stores, and what it tells (this profile).
+-- How a run is over that began with what a mark stores, and what it tells.
 use Rattle.std.specs.Prelude.{◌≡◌, ℕ, Bool, false, List, Result}
 use Rattle.pdc_life.specs.CoreKind.{CoreKind, given_of, OfMerger, OfNode, output_under, rules_of, Says}
 use Rattle.pdc_aligner.specs.Device.{Standing}

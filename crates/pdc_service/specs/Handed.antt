@@ -1,4 +1,4 @@
--- What was handed to a sink in a run that began with what a mark stores (this profile).
+-- What was handed to a sink in a run that began with what a mark stores.
 use Rattle.std.specs.Prelude.{◌≡◌, ℕ, List, IfOk, Result, length}
 use Rattle.pdc_aligner.specs.Sequence.{Rises, instants_of}
 use Rattle.pdc_aligner.specs.Laid.{frames_of}

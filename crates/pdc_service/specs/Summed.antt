@@ -1,4 +1,4 @@
--- What the totals of a run are beside its receivers (this profile).
+-- What the totals of a run are beside its receivers.
 use Rattle.std.specs.Prelude.{◌≡◌, ℕ, map, sum, vec_len}
 use Rattle.pdc_threads.specs.declared.telling.Totals.{Totals}
 

@@ -1,5 +1,5 @@
 //! A node and the merger as programs: what stands before a run is done in its order, and they run for a number of ticks, while consumers
-//! are served beside them (this profile).
+//! are served beside them.
 //!
 //! The first calls to look at are [`serve_node`] and [`serve_merger`], [`run_node`] and [`run_merger`] are the runs without files and ports.
 //! A run begins with a mark whose next start is stored ([`Begun`]),

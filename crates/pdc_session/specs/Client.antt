@@ -1,4 +1,4 @@
--- A client, and what its calls leave (this profile).
+-- A client, and what its calls leave.
 use Rattle.std.specs.Prelude.{◌≡◌, ℕ, List, Option, Some, None, Result, IfErr, OnOk, IsErrOf}
 use Rattle.pdc_frame.specs.Stream.{Held}
 use Rattle.pdc_session.specs.Counting.{faults_of, inner_of, reads_of}

@@ -1,4 +1,4 @@
--- How reads and faults are counted (this profile). A counter stays at its greatest value.
+-- How reads and faults are counted. A counter stays at its greatest value.
 use Rattle.std.specs.Prelude.{◌≡◌, refl, ℕ, ◌+◌, ◌-◌, ◌^◌, min, Bool, true, false, not, Result, Ok, Err}
 use Rattle.std.specs.IoError.{error_kind}
 use Rattle.std.specs.declared.io.Error.{Error}

@@ -1,4 +1,4 @@
--- A connection that counts (this profile).
+-- A connection that counts.
 use Rattle.std.specs.Prelude.{ℕ}
 use Rattle.pdc_session.specs.declared.counting.Counting.{Counting}
 

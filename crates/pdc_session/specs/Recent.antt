@@ -1,4 +1,4 @@
--- The frames that were sent last, for those who ask later (this profile): at most 256, in the order of their instants.
+-- The frames that were sent last, for those who ask later: at most 256, in the order of their instants.
 use Rattle.std.specs.Prelude.{◌≡◌, refl, ℕ, List, [], ◌∷◌, ◌++◌, length, drop, ◌-◌, ◌<◌, ◌≤◌, max, Bool, true, false, nat_le, nat_lt, flat_map, Option, Some, None}
 use Rattle.std.specs.List.{filter}
 use Rattle.pdc_session.specs.declared.recent.SentFrame.{SentFrame}

@@ -1,4 +1,4 @@
--- How a client finds a frame in what it reads (this profile).
+-- How a client finds a frame in what it reads.
 use Rattle.std.specs.Prelude.{◌≡◌, ◌⊎◌, ◌<◌, ℕ, List, [], ◌∷◌, ◌++◌, length, Option, Result, OnOk, IsErrOf}
 use Rattle.std.specs.List.{All}
 use Rattle.std.specs.Io.KnownBytes.{Consumes, IsAtEnd}

@@ -1,4 +1,4 @@
--- Sessions over whole streams (this profile): for every way to cut a stream into pieces, a session that was fed them was told what the
+-- Sessions over whole streams: for every way to cut a stream into pieces, a session that was fed them was told what the
 -- frames of the stream tell, and answered them in order, up to the first fault of the stream or the first want of memory.
 use Rattle.std.specs.Prelude.{◌≡◌, ℕ, List, [], ◌∷◌, ◌++◌, false, flat_map, Option, Some, None}
 use Rattle.std.specs.List.{All}

@@ -1,4 +1,4 @@
--- What a node and the merger are told alike, key by key (this profile).
+-- What a node and the merger are told alike, key by key.
 use Rattle.std.specs.Prelude.{◌≡◌, refl, ℕ, ◌/◌, Bool, ◌&&◌, List, codes, nat_eq, if◌then◌else◌, Option, Some, None, is_some, option_and_then}
 use Rattle.std.specs.Cmp.Lexicographic.{pointwise}
 use Rattle.toml.specs.Data.{Data, Members, as_str, get_member}

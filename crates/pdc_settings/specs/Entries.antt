@@ -1,4 +1,4 @@
--- What the tables of the PMUs and of the nodes say (this profile).
+-- What the tables of the PMUs and of the nodes say.
 use Rattle.std.specs.Prelude.{ℕ, suc, List, [], ◌∷◌, codes, nat_le, ◌&&◌, if◌then◌else◌, Option, Some, None, option_and_then, option_map}
 use Rattle.toml.specs.Data.{Data, Items, no_items, item, Members, as_array, as_table, get_member}
 use Rattle.pdc_frame.specs.declared.limits.TheConstants.{MAX_ID}

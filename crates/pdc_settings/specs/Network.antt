@@ -1,4 +1,4 @@
--- Where a concentrator is on the network: keys of its settings that may be left out (this profile).
+-- Where a concentrator is on the network: keys of its settings that may be left out.
 use Rattle.std.specs.Prelude.{◌≡◌, ℕ, List, [], ◌∷◌, codes, nat_le, if◌then◌else◌, map, Option, Some, None, option_and_then, string_bytes, ◌⊎◌}
 use Rattle.std.specs.Net.Addr.{IsV4And, ipv4_octets}
 use Rattle.std.specs.declared.net.ip_addr.IpAddr.{IpAddr}

@@ -1,4 +1,4 @@
--- What a text of settings gives (this profile).
+-- What a text of settings gives.
 use Rattle.std.specs.Prelude.{◌≡◌, ℕ, Bool, ◌&&◌, not, List, ◌∷◌, codes, is_some, map, option_and_then, IsSomeAnd, None, Some, false, true}
 use Rattle.toml.specs.Data.{Members}
 use Rattle.toml.specs.Parse.{parse_document}

@@ -1,4 +1,4 @@
-//! Settings of a node and of the merger, out of a text of TOML (this profile).
+//! Settings of a node and of the merger, out of a text of TOML.
 //!
 //! The first types to look at are [`NodeSettings`] and [`MergerSettings`]. What the answers of a life depend on is the type of
 //! `pdc_life`; beside it stands what the running program is told.

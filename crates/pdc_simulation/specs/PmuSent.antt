@@ -1,4 +1,4 @@
--- The frames that a PMU sent, over every list of them (this profile).
+-- The frames that a PMU sent, over every list of them.
 use Rattle.std.specs.Prelude.{◌≡◌, ◌⊎◌, ℕ, ◌+◌, ◌<◌, ◌≤◌, true, List, [], ◌∷◌, Some}
 use Rattle.pdc_frame.specs.Frame.{Fields, IsFrame, spelling_of}
 use Rattle.pdc_frame.specs.declared.frame.Kind.TheVariants.{Cfg2, DataFrame}

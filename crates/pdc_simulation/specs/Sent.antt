@@ -1,4 +1,4 @@
--- The frames that a simulated PMU sends, and those that a sink took of them (this profile).
+-- The frames that a simulated PMU sends, and those that a sink took of them.
 use Rattle.std.specs.Prelude.{◌≡◌, refl, ◌⊎◌, ℕ, zero, suc, ◌+◌, ◌*◌, ◌/◌, ◌%◌, ◌^◌, ◌-◌, min, nat_eq, nat_lt, Bool, true, false, ◌&&◌, if◌then◌else◌, List, [], ◌∷◌, ◌++◌, length, map, Option, None, Some, IsSomeAnd}
 use Rattle.pdc_cfg.specs.Section.{SectionFields}
 use Rattle.pdc_cfg.specs.Shape.{word_count_of}

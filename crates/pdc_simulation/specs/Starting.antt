@@ -1,4 +1,4 @@
--- A PMU of a run before it sends (this profile).
+-- A PMU of a run before it sends.
 use Rattle.std.specs.Prelude.{ℕ, List}
 use Rattle.pdc_simulation.specs.Pmu.{PmuView}
 use Rattle.pdc_simulation.specs.Sent.{IsConfigured, Run, Stands}

@@ -1,4 +1,4 @@
--- Why a simulation ended early, and what the sink took then (this profile).
+-- Why a simulation ended early, and what the sink took then.
 use Rattle.std.specs.Prelude.{◌≡◌, ℕ, List, [], None}
 use Rattle.pdc_simulation.specs.declared.pmu_fault.PmuFault.TheVariants as Refused
 use Rattle.pdc_ports.specs.Failures.{HasRisen}

@@ -27,7 +27,7 @@ pub const MAX_COUNT: u16 = 65535;
 /// The most bytes of a block.
 const MAX_BLOCK_LEN: usize = 214;
 
-/// A PMU that sends one stream, and is its only source (this profile). The instants of its data frames rise, and so do the counts of
+/// A PMU that sends one stream, and is its only source. The instants of its data frames rise, and so do the counts of
 /// its configurations.
 #[derive(Debug, Drop)]
 pub struct Pmu {

@@ -1,4 +1,4 @@
--- A mark that has begun (this profile).
+-- A mark that has begun.
 use Rattle.pdc_startup.specs.declared.begun.Begun.{Begun}
 
 -- the mark, with the stored start of this life

@@ -1,4 +1,4 @@
--- A node or the merger, as its settings describe it (this profile).
+-- A node or the merger, as its settings describe it.
 use Rattle.std.specs.Prelude.{ℕ, length}
 use Rattle.pdc_row.specs.declared.output.Output.{Output}
 use Rattle.pdc_startup.specs.declared.concentrator.Concentrator.{Concentrator}

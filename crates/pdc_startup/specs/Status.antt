@@ -1,4 +1,4 @@
--- The exit status that each fault gives (this profile): 1 where settings or mark are refused, 3 where a device failed or memory ran out.
+-- The exit status that each fault gives: 1 where settings or mark are refused, 3 where a device failed or memory ran out.
 use Rattle.std.specs.Prelude.{ℕ}
 use Rattle.pdc_mark.specs.declared.fault.MarkFault.TheVariants.{NoMark, Damaged, OtherOwner, Device, StartsUsedUp, OldMark}
 use Rattle.pdc_settings.specs.declared.fault.SettingsFault.TheVariants.{Toml, Range, DoubledId, NoMemory}

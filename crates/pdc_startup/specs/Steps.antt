@@ -1,4 +1,4 @@
--- In which order the steps of a startup are tried, and how it ends (this profile).
+-- In which order the steps of a startup are tried, and how it ends.
 use Rattle.std.specs.Prelude.{◌≡◌, ◌++◌, ◌∷◌, List, Option, Some, None, Result, Ok, Err, IfErr, IfSome, []}
 use Rattle.pdc_mark.specs.declared.stored.Stored.{Stored}
 use Rattle.pdc_hub.specs.declared.fault.HubFault.TheVariants.{NoMemory}

@@ -1,5 +1,5 @@
 //! What a node and the merger do before they run: their settings are read, the next start is stored on their mark, the record of their
-//! life is begun, and their ports are opened (this profile).
+//! life is begun, and their ports are opened.
 //!
 //! The first types to look at are [`Concentrator`], a node or the merger as its settings describe it, and [`Machine`], each of whose calls
 //! tries one step and may tell of it. To the layer above this crate promises that a life begins with a mark whose next start is stored

@@ -1,4 +1,4 @@
--- Calls of a core and of the publisher of its mark, one after the other, and the bytes that the publishes append (this profile).
+-- Calls of a core and of the publisher of its mark, one after the other, and the bytes that the publishes append.
 use Rattle.std.specs.{List.{concat, Contains}, Prelude.{[], ◌++◌, ◌<◌, ◌∷◌, ◌≡◌, List, map, None, Option, Some, ℕ}}
 use Rattle.pdc_row.specs.{Rising.{Rises}, RowView.{row_instants, RowView}}
 use Rattle.pdc_row.specs.Layout.{wire_of}

@@ -1,4 +1,4 @@
--- What a station's life has published grows by the frames that its publishes append, and by nothing else (this profile).
+-- What a station's life has published grows by the frames that its publishes append, and by nothing else.
 use Rattle.std.specs.{List.{concat}, Prelude.{◌++◌, ◌∷◌, ◌≡◌, List, Option, ℕ}}
 use Rattle.pdc_row.specs.RowView.{RowView}
 use Rattle.pdc_life.specs.{Arrival.{Arrival}, Given.{Given}, Life.{Answer, Arrive, Entry, Pop, Tick, TickAnswer}, Published.{published}}

@@ -1,4 +1,4 @@
--- What a station keeps, and what stops leave of its mark (this profile).
+-- What a station keeps, and what stops leave of its mark.
 use Rattle.std.specs.Prelude.{[], ◌+◌, ◌≡◌, Bool, if◌then◌else◌, List, None, Option, Some, ℕ}
 use Rattle.pdc_row.specs.RowView.{RowView}
 use Rattle.pdc_row.specs.{declared.output.Output.{Output}, Layout.{wire_of}}

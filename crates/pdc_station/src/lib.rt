@@ -1,4 +1,4 @@
-//! A station of the world: a core with its mark, over all its lives (this profile).
+//! A station of the world: a core with its mark, over all its lives.
 //!
 //! The first type to look at is [`Station`]: it hears, ticks and publishes as the present life of its core does, by the `Publisher`
 //! that nodes and mergers run: that raises its mark before each tick and each publish that needs it. A stop ends the life, and the station goes on with the next one. Each life, the

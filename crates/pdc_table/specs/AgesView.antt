@@ -1,4 +1,4 @@
--- What contracts see of the ages at the places of a ring (this profile).
+-- What contracts see of the ages at the places of a ring.
 use Rattle.std.specs.Prelude.{ℕ, ◌-◌, List, map}
 
 -- the age at each place, and how many places the buffer has

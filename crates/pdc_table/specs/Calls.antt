@@ -1,4 +1,4 @@
--- Whole lists of calls of a table, the newest first, by the definitions of each call (this profile).
+-- Whole lists of calls of a table, the newest first, by the definitions of each call.
 use Rattle.std.specs.Prelude.{◌≡◌, ℕ, ◌<◌, ◌++◌, Bool, List, [], ◌∷◌, length, slice_index_or}
 use Rattle.std.specs.Option.{option_to_list}
 use Rattle.pdc_open_row.specs.pdc_row.CellView.{CellView}

@@ -1,4 +1,4 @@
--- Which open instants close (this profile).
+-- Which open instants close.
 use Rattle.std.specs.Prelude.{ℕ, ◌+◌, ◌-◌, ◌^◌, Bool, ◌||◌, not, min, nat_le, List, filter}
 use Rattle.std.specs.List.{list_all}
 use Rattle.pdc_open_row.specs.Due.{is_due}

@@ -1,4 +1,4 @@
--- What a table contains, however it is kept (this profile).
+-- What a table contains, however it is kept.
 use Rattle.std.specs.Prelude.{◌≡◌, ◌≢◌, ℕ, ◌+◌, ◌<◌, ◌≤◌, ◌++◌, ◌==◌, Bool, false, if◌then◌else◌, List, [], ◌∷◌, length, replicate, Option, Some, None}
 use Rattle.std.specs.List.{All, AllByRecursion}
 use Rattle.pdc_open_row.specs.pdc_cfg.declared.shape.Shape.{Shape}

@@ -1,4 +1,4 @@
--- What a table contains, told by the calls on it, the newest first (this profile).
+-- What a table contains, told by the calls on it, the newest first.
 use Rattle.std.specs.Prelude.{◌≡◌, ℕ, ◌+◌, ◌<◌, ◌==◌, Bool, false, ◌&&◌, ◌||◌, not, if◌then◌else◌, nat_le, nat_lt, List, [], ◌∷◌, filter, Option, None, IfSome, is_some, slice_index_or}
 use Rattle.std.specs.List.{list_all, range_with_len}
 use Rattle.pdc_open_row.specs.pdc_row.CellView.{CellView}

@@ -1,4 +1,4 @@
--- A row that a caller keeps, and pops into (this profile).
+-- A row that a caller keeps, and pops into.
 use Rattle.std.specs.Prelude.{Bool, true, false, Option, Some, None}
 use Rattle.pdc_open_row.specs.pdc_row.RowView.{RowView, row_view}
 use Rattle.pdc_open_row.specs.pdc_row.declared.due_row.DueRow.{DueRow}

@@ -1,4 +1,4 @@
--- What each call of a table answers, and what it makes of the content (this profile).
+-- What each call of a table answers, and what it makes of the content.
 use Rattle.std.specs.Prelude.{ℕ, ◌+◌, ◌++◌, nat_le, Bool, false, not, if◌then◌else◌, List, [], ◌∷◌, length, map, drop, Option, Some, None, option_map, slice_set}
 use Rattle.std.specs.List.{list_all, slice_get}
 use Rattle.pdc_open_row.specs.pdc_cfg.declared.shape.Shape.{Shape}

@@ -1,4 +1,4 @@
--- What contracts see of a table (this profile).
+-- What contracts see of a table.
 use Rattle.std.specs.Prelude.{ℕ, List}
 use Rattle.pdc_table.specs.Content.{Content}
 

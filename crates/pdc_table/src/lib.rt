@@ -1,5 +1,4 @@
-//! The alignment table of a concentrator: the rows of the instants that wait for data, and the rows that are closed
-//! (this profile).
+//! The alignment table of a concentrator: the rows of the instants that wait for data, and the rows that are closed.
 //!
 //! `Table` is the contract of every table: what each call answers, and what it makes of the table's content, which is a
 //! finite record that knows nothing of how the rows are kept. `RingTable` keeps each at the remainder of its instant by the window.

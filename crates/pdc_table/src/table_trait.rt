@@ -15,7 +15,7 @@ use crate::{MAX_COLUMNS, MAX_LANES, MAX_WINDOW, MIN_WINDOW, PutOutcome, RowLayou
 use pdc_open_row::{Block, Body, DueRow, Part, cut_bodies, new_room};
 use std::alloc::{AllocError, Global};
 
-/// A table that aligns the streams of a concentrator by instant (this profile).
+/// A table that aligns the streams of a concentrator by instant.
 ///
 /// It has 1 to 16 columns, one for each PMU, and 1 or 2 lanes. With one lane there is a stream for each column, which
 /// writes that column; with two lanes there are two streams, and each writes its lane of all columns.

@@ -1,4 +1,4 @@
--- All that a run promises, over its inputs (this profile).
+-- All that a run promises, over its inputs.
 use Rattle.std.specs.Prelude.{◌≡◌, ℕ, List, length, map, Option, Result, Some}
 use Rattle.pdc_aligner.specs.Device.{standing_of}
 use Rattle.pdc_aligner.specs.declared.pace.Pace.{Pace}

@@ -1,4 +1,4 @@
--- How the parts of a run ended, and which fault the run tells of them (this profile).
+-- How the parts of a run ended, and which fault the run tells of them.
 use Rattle.std.specs.Prelude.{◌≡◌, ℕ, ◌+◌, Bool, drop, true, false, List, [], ◌∷◌, length, map, sum, IfSome, Option, None, Some, Result, Ok, Err}
 use Rattle.pdc_hub.specs.Faults.{IsOfReceiver}
 use Rattle.pdc_hub.specs.Received.{AreBrought, HasReceived}

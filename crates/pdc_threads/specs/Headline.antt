@@ -1,4 +1,4 @@
--- The headline, of a run: what the frames are that its sink took, in terms of what its sources gave (this profile).
+-- The headline, of a run: what the frames are that its sink took, in terms of what its sources gave.
 use Rattle.std.specs.List.{AllByRecursion}
 use Rattle.std.specs.Prelude.{◌≡◌, ◌⊎◌, ◌<◌, ℕ, Bool, true, Contains, List, [], ◌∷◌, ◌++◌, IfOk, OnOk, Result, Some, length, slice_get}
 use mathlib.Core.List.{IsPrefix}

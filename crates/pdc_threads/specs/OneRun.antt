@@ -1,4 +1,4 @@
--- What a run did, as one life (this profile).
+-- What a run did, as one life.
 use Rattle.std.specs.Prelude.{◌≡◌, ◌≤◌, ℕ, Bool, true, List, [], ◌++◌, length, map, IfOk, OnOk, Result}
 use Rattle.pdc_aligner.specs.Device.{HasDevice, Standing}
 use Rattle.pdc_aligner.specs.Laid.{are_done, frames_of, is_done}

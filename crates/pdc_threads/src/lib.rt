@@ -1,5 +1,5 @@
 //! The running core of a concentrator, node or merger: receivers side by side round one lock, one aligner that alone owns the mark, and
-//! one sender that alone has the sink (this profile).
+//! one sender that alone has the sink.
 //!
 //! The first call to look at is [`run`]. What goes from the aligner to the sender is a [`Message`], through the channel of `pdc_pipe`.
 //!

@@ -1,4 +1,4 @@
--- When ticks are due: at moments that lie a fixed length apart (this profile).
+-- When ticks are due: at moments that lie a fixed length apart.
 use Rattle.std.specs.Prelude.{◌≡◌, refl, ℕ, ◌+◌, ◌-◌, ◌*◌, ◌/◌, ◌≤◌, ◌<◌}
 
 -- The moment of the deadline with this number, in nanoseconds: the first whole one that is not before so many times `span / parts` behind

@@ -1,4 +1,4 @@
--- Which instant a time is (this profile).
+-- Which instant a time is.
 use Rattle.std.specs.Prelude.{◌≡◌, refl, ℕ, ◌-◌, ◌*◌, ◌/◌, ◌^◌, min}
 
 -- the last instant that was reached so many nanoseconds behind 1970, at so many frames in a second; the greatest of 64 bits where they do

@@ -1,4 +1,4 @@
--- The deadlines of a ticker (this profile).
+-- The deadlines of a ticker.
 use Rattle.std.specs.Prelude.{ℕ}
 use Rattle.pdc_ticking.specs.declared.deadlines.Deadlines.{Deadlines}
 

@@ -1,4 +1,4 @@
--- Ticks that come late, and data that waits for them (this profile).
+-- Ticks that come late, and data that waits for them.
 use Rattle.std.specs.Prelude.{◌≡◌, refl, ℕ, ◌-◌, List, Option, None, Some, option_map, nat_le, if◌then◌else◌}
 use Rattle.pdc_journal.specs.Head.{data_instant_in}
 use Rattle.pdc_journal.specs.Moment.{gap}

@@ -1,4 +1,4 @@
--- How a ticker waits that may be woken before its deadline: between two deadlines it gives one tick (this profile).
+-- How a ticker waits that may be woken before its deadline: between two deadlines it gives one tick.
 use Rattle.std.specs.Prelude.{◌≡◌, refl, ℕ, Bool, true, false, Option, None, Some, ◌+◌, ◌-◌, ◌*◌, ◌≤◌, ◌<◌, nat_le}
 use Rattle.pdc_ticking.specs.Deadlines.{IsNextDeadline}
 use Rattle.pdc_ticking.specs.declared.waiting.Waiting.{Waiting}

@@ -1,4 +1,4 @@
--- The ticks of a ticker that may be woken (this profile).
+-- The ticks of a ticker that may be woken.
 use Rattle.std.specs.Prelude.{◌≡◌, ℕ, Option, Some, ◌+◌, ◌-◌, ◌/◌, ◌^◌, ◌≤◌, ◌<◌, min, if◌then◌else◌}
 use Rattle.pdc_ticking.specs.Paces.{first_of, parts_of, span_of}
 use Rattle.pdc_ticking.specs.Waiting.{IsWaiting, leaves}

@@ -1,4 +1,4 @@
-//! When a running concentrator ticks, by the system's clock, and which data waits for a tick (this profile).
+//! When a running concentrator ticks, by the system's clock, and which data waits for a tick.
 //!
 //! [`ClockTicker`] is a `Ticker` of `pdc_ports`: it gives the instants of the times that its [`Timepiece`] showed. [`TickTime`] is the
 //! system's: by [`Metronome`] it sleeps to the next of its [`Deadlines`], and by [`WokenTimepiece`] it may be woken once before each.

@@ -1,4 +1,4 @@
--- When data is old (this profile).
+-- When data is old.
 use Rattle.std.specs.Prelude.{◌≡◌, refl, ℕ, ◌+◌, ◌-◌, ◌/◌, ◌≤◌, nat_eq, if◌then◌else◌}
 
 -- How long nothing may come at so many frames a second, in ms: a second, and two frames.

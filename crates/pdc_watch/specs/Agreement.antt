@@ -1,4 +1,4 @@
--- When what two nodes published of one instant agrees (this profile).
+-- When what two nodes published of one instant agrees.
 use Rattle.std.specs.Prelude.{◌≡◌, ℕ, List, Bool, ◌+◌, ◌-◌, ◌^◌, min, All, true, false}
 use Rattle.pdc_watch.specs.declared.present.PresentBlock.{PresentBlock}
 use Rattle.pdc_watch.specs.declared.agreement.Agreement.{Agreement}

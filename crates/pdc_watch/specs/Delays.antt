@@ -1,4 +1,4 @@
--- How late the frames of a stream are (this profile).
+-- How late the frames of a stream are.
 use Rattle.std.specs.Prelude.{◌≡◌, refl, ℕ, ◌+◌, ◌-◌, ◌*◌, ◌/◌}
 
 -- The nearest rank, counted from 0: the first place, of so many in rising order, up to which stand so many of a hundred of them.

@@ -1,4 +1,4 @@
--- What is told of a PMU on one path in a tenth of a second (this profile).
+-- What is told of a PMU on one path in a tenth of a second.
 use Rattle.std.specs.Prelude.{◌≡◌, refl, ℕ, List, ◌+◌, ◌-◌, ◌*◌, ◌/◌, ◌%◌, nat_eq, nat_lt, min, if◌then◌else◌, slice_index_or, slice_set}
 use Rattle.pdc_watch.specs.declared.cell.Cell.{Cell}
 use Rattle.pdc_watch.specs.declared.cell.Cell.TheVariants.{NotDue, Absent, Gaps, Whole}

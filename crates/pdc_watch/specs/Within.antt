@@ -1,4 +1,4 @@
--- Lengths of time that were counted by bounds (this profile).
+-- Lengths of time that were counted by bounds.
 use Rattle.std.specs.Prelude.{◌≡◌, refl, ℕ, ◌+◌, ◌*◌, List, [], ◌∷◌, length, nat_lt, take_while}
 
 -- The first place, of rising bounds, up to whose bound so many of a hundred of all lie: `within` has how many lie within each bound, and there are

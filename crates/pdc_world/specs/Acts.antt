@@ -1,4 +1,4 @@
--- What an act of one core makes of a world: of the core and its mark, and of what was sent and published (this profile).
+-- What an act of one core makes of a world: of the core and its mark, and of what was sent and published.
 use Rattle.std.specs.Prelude.{[], ◌∷◌, ◌≡◌, ◌≤◌, Bool, IfErr, IfOk, length, List, None, Option, Result, Some, true, ℕ}
 use Rattle.pdc_frame.specs.declared.limits.TheConstants.{MAX_SIZE}
 use Rattle.pdc_row.specs.RowView.{RowView}

@@ -1,4 +1,4 @@
--- Frames agree, as a reader of the streams sees them (this profile).
+-- Frames agree, as a reader of the streams sees them.
 use Rattle.std.specs.{List.{Contains, slice_get}, Prelude.{◌≡◌, List, Some, ℕ}}
 use Rattle.pdc_cfg.specs.Section.{SectionFields}
 use Rattle.pdc_history.specs.{Genuine.{AreShown}, Seen.{Seen}}

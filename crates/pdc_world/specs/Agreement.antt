@@ -1,4 +1,4 @@
--- Whether the settings of two nodes and a merger agree, as a test (this profile).
+-- Whether the settings of two nodes and a merger agree, as a test.
 use Rattle.std.specs.Prelude.{[], ◌&&◌, ◌==◌, ◌∷◌, Bool, false, List, not, true, ℕ}
 use Rattle.pdc_row.specs.declared.output.Output.{Output}
 use Rattle.pdc_life.specs.{declared.given.Settings.{Settings}, declared.merging.MergedNode.{MergedNode}, declared.merging.MergerSettings.{MergerSettings}, declared.pmu.Pmu.{Pmu}}

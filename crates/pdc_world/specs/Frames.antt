@@ -1,4 +1,4 @@
--- The layout under a stamp, among the frames that were sent alone (this profile).
+-- The layout under a stamp, among the frames that were sent alone.
 use Rattle.std.specs.Prelude.{◌≡◌, List, map, ℕ}
 use Rattle.pdc_cfg.specs.Section.{SectionFields}
 use Rattle.pdc_life.specs.Arrival.{Stamp}

@@ -1,4 +1,4 @@
--- All that a reader of the streams may rest on (this profile).
+-- All that a reader of the streams may rest on.
 use Rattle.std.specs.Prelude.{List}
 use Rattle.pdc_history.specs.{Genuine.{FramesAgree, HasGenuineFrames}, Pmus.{PmusSendOneBody, PmusSendOneSection}, Seen.{Seen}, World.{A, B, M}}
 use Rattle.pdc_history.specs.declared.reply.Published.{Published}

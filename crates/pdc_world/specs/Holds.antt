@@ -1,4 +1,4 @@
--- The histories that a world holds, and what its steps make of them (this profile).
+-- The histories that a world holds, and what its steps make of them.
 use Rattle.std.specs.Prelude.{◌++◌, ◌+◌, ◌∷◌, ◌≡◌, length, List}
 use Rattle.pdc_history.specs.{Asked.{Asked}, History.{IsHistory}, Play.{IsPlayOf, IsStepOf}, World.{Happened, kind_of, lead_of, Who, World}}
 use Rattle.pdc_history.specs.{declared.event_fault.WorldFault.{WorldFault}, declared.reply.Reply.{Reply}}

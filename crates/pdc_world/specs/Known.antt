@@ -1,4 +1,4 @@
--- What is known of the frames that cores send (this profile).
+-- What is known of the frames that cores send.
 use Rattle.std.specs.Prelude.{◌+◌, ◌≡◌, length}
 use Rattle.pdc_frame.specs.Frame.{Fields, spelling_of}
 use Rattle.pdc_life.specs.{Frames.{LayoutsOfLivesAreFrames}, Laws.{LivesAreRuns}}

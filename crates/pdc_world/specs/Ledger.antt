@@ -1,4 +1,4 @@
--- What contracts see of the ledger (this profile).
+-- What contracts see of the ledger.
 use Rattle.std.specs.Prelude.{[], ◌&&◌, ◌<◌, ◌≡◌, ◌≤◌, Bool, IsTrue, nat_le, nat_lt, vec_capacity, vec_len}
 use Rattle.pdc_frame.specs.declared.limits.TheConstants.{MAX_SIZE}
 use Rattle.pdc_mark.specs.declared.stored.Stored.{Stored}

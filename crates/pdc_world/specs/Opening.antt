@@ -1,4 +1,4 @@
--- How a world begins, and why it does not (this profile).
+-- How a world begins, and why it does not.
 use Rattle.std.specs.Prelude.{◌&&◌, ◌-◌, ◌^◌, ◌≡◌, ◌≤◌, Bool, nat_lt}
 use Rattle.pdc_mark.specs.{declared.stored.Stored.{Stored}, Stored.{with_next_start}}
 use Rattle.pdc_life.specs.{declared.given.Settings.{Settings}, declared.merging.MergerSettings.{MergerSettings}}

@@ -1,4 +1,4 @@
--- What is seen of rows that were published (this profile).
+-- What is seen of rows that were published.
 use Rattle.std.specs.{List.{AllByRecursion, slice_get}, Prelude.{◌≡◌, List, Some, ℕ}}
 use Rattle.pdc_life.specs.Reading.{IsData}
 use Rattle.pdc_history.specs.{Seen.{Seen, stream_in}, World.{Who}}

@@ -1,4 +1,4 @@
--- Which core an event is for (this profile).
+-- Which core an event is for.
 use Rattle.pdc_history.specs.World.{A, Who}
 use Rattle.pdc_history.specs.{declared.event.Event.{Event}, Handed.{who_of}}
 use Rattle.pdc_history.specs.declared.event.Event.TheVariants as event

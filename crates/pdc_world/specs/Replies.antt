@@ -1,4 +1,4 @@
--- What a world replies, and the list of what was published, by its history (this profile).
+-- What a world replies, and the list of what was published, by its history.
 use Rattle.std.specs.Prelude.{[], ◌++◌, ◌∷◌, length, List, None, option_map, Some, ℕ}
 use Rattle.pdc_row.specs.RowView.{RowView}
 use Rattle.pdc_history.specs.{Play.{Answered, Began, Closed, Gave, PassedBy, SentAs, Told, told_of}, World.{A, B, Comes, Ends, Happened, M, PassesBy, Publishes, Sends, sent, Ticks, Who, World}}

@@ -1,4 +1,4 @@
--- Which events need no memory (this profile).
+-- Which events need no memory.
 use Rattle.std.specs.Prelude.{Bool, IsTrue}
 use Rattle.pdc_history.specs.{Asked.{Asked, Do, Junk, Send, To}, Event.{Publish, TickAt}}
 

@@ -1,4 +1,4 @@
--- The seats of a world: what a core with its mark is to it (this profile).
+-- The seats of a world: what a core with its mark is to it.
 use Rattle.std.specs.Prelude.{◌≡◌, List, ℕ}
 use Rattle.pdc_mark.specs.declared.stored.Stored.{Stored}
 use Rattle.pdc_life.specs.{Answer.{Rules}, Arrival.{Arrival}, CoreKind.{CoreKind, given_of, OfMerger, OfNode, rules_of, Says}, Given.{Given}, Life.{Entry}}

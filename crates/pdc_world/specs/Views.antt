@@ -1,4 +1,4 @@
--- What contracts see of a world (this profile).
+-- What contracts see of a world.
 use Rattle.std.specs.Prelude.{Bool, List, ℕ}
 use Rattle.pdc_mark.specs.declared.stored.Stored.{Stored}
 use Rattle.pdc_life.specs.declared.given.Settings.{Settings}

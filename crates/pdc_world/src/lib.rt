@@ -1,4 +1,4 @@
-//! A world of two nodes, a merger and the network between them, as a program (this profile): whatever the network loses, repeats and
+//! A world of two nodes, a merger and the network between them, as a program: whatever the network loses, repeats and
 //! reorders, and whenever cores stop, it is played event by event.
 //!
 //! The first type to look at is [`World`]. It keeps the three cores with their marks, each in its present life, and all that was ever
