@@ -2,7 +2,7 @@
 
 use crate::complaint::{NamedPort, complain, complain_at, complain_of, local_port, print_fault};
 use crate::{DONE, FAILED};
-use pdc_command_line::{Place as AskedPlace, Simulated as Asked};
+use pdc_command_line::{PortOrHost, Simulated as Asked};
 use pdc_simulation::{Place, Simulated, SimulationFault, simulate};
 use std::alloc::Global;
 use std::io;
@@ -11,12 +11,12 @@ use std::io;
 fn report_place(
     rt: &impl Eprint,
     kind: &str,
-    place: Option<&AskedPlace<'_>>,
+    place: Option<&PortOrHost<'_>>,
     error: &io::Error,
 ) -> io::Result<()> {
     match place {
-        Some(AskedPlace::Port(port)) => { complain_at(rt, "pmu", &local_port(kind, *port), error) }
-        Some(AskedPlace::At(text)) => eprintln!(rt; "pdc pmu: {kind}{text}: {error}"),
+        Some(PortOrHost::Port(port)) => { complain_at(rt, "pmu", &local_port(kind, *port), error) }
+        Some(PortOrHost::At(text)) => eprintln!(rt; "pdc pmu: {kind}{text}: {error}"),
         None => complain_of(rt, "pmu", kind.trim_end(), error),
     }
 }
@@ -49,17 +49,17 @@ fn report_simulation(
 }
 
 /// A place, as the words of the command line say it.
-fn place_of<'a>(asked: &AskedPlace<'a>) -> Place<'a> {
+fn place_of<'a>(asked: &PortOrHost<'a>) -> Place<'a> {
     match asked {
-        AskedPlace::Port(port) => Place::Port(*port),
-        AskedPlace::At(text) => Place::At(text),
+        PortOrHost::Port(port) => Place::Port(*port),
+        PortOrHost::At(text) => Place::At(text),
     }
 }
 
 /// The places, in their order.
 fn places_of<'a>(
     alloc: Global,
-    asked: &[AskedPlace<'a>],
+    asked: &[PortOrHost<'a>],
 ) -> Result<Vec<Place<'a>>, SimulationFault> {
     let mut places = Vec::new(alloc);
     for place in asked {

@@ -38,7 +38,7 @@ Examples:
 
 /// What is asked for.
 #[derive(Drop)]
-pub struct Asked<'a> {
+pub struct CheckCommand<'a> {
     /// The settings files.
     pub files: Vec<&'a str>,
     /// The mark files of the first of them, in their order.
@@ -79,7 +79,7 @@ fn pdc<'a>(alloc: Global) -> Result<Command<'a>, AllocError> {
 }
 
 /// There are no more marks than files.
-fn few_marks(alloc: Global, asked: Asked<'_>) -> Result<Asked<'_>, Error> {
+fn few_marks(alloc: Global, asked: CheckCommand<'_>) -> Result<CheckCommand<'_>, Error> {
     if asked.marks.len() > asked.files.len() {
         let message = "there are more marks than settings files: give each --mark for one FILE";
         return Err(check(alloc)?.error(ErrorKind::ValueValidation, message)?);
@@ -92,12 +92,12 @@ fn few_marks(alloc: Global, asked: Asked<'_>) -> Result<Asked<'_>, Error> {
 /// # Errors
 ///
 /// What `clap` reports: the help that was asked for, or what is wrong.
-pub fn words_of<'a>(alloc: Global, words: &'a [String]) -> Result<Asked<'a>, Error> {
+pub fn words_of<'a>(alloc: Global, words: &'a [String]) -> Result<CheckCommand<'a>, Error> {
     let matches = pdc(alloc)?.try_get_matches_from(words)?;
     let (mut files, mut marks) = (Vec::new(alloc), Vec::new(alloc));
     if let Some((_, inner)) = matches.subcommand() {
         files.extend_from_slice(inner.get_strs("FILE").unwrap_or(&[]))?;
         marks.extend_from_slice(inner.get_strs("mark").unwrap_or(&[]))?;
     }
-    few_marks(alloc, Asked { files, marks })
+    few_marks(alloc, CheckCommand { files, marks })
 }

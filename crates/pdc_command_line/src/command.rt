@@ -11,7 +11,7 @@ use crate::pmu::{PMU, pmu_request};
 use crate::request::Request;
 use crate::running::{MERGE, NODE, running};
 use crate::show::{SHOW, show_form};
-use crate::words::{Told, command_of};
+use crate::words::{CommandHelp, command_of};
 use crate::wrong::{Wrong, error_of};
 use clap::{ArgMatches, Command, Error};
 use pdc_version::VERSION;
@@ -62,7 +62,7 @@ fn program<'a>(alloc: Global) -> Result<Command<'a>, AllocError> {
 fn with<'a>(
     alloc: Global,
     program: Result<Command<'a>, AllocError>,
-    told: &Told<'a>,
+    told: &CommandHelp<'a>,
 ) -> Result<Command<'a>, AllocError> {
     program?.subcommand(command_of(alloc, told)?)
 }

@@ -1,7 +1,7 @@
 //! The commands `stop` and `status`.
 
 use crate::request::{Request, Status};
-use crate::words::{Form, Told, Wanted};
+use crate::words::{Argument, CommandHelp, Form};
 use clap::ArgMatches;
 
 const ABOUT_STOP: &str = "Stop a node or the merger as after its last tick";
@@ -51,10 +51,10 @@ Examples:
   pdc status --json /run/pdc-node-a/control | jq .published";
 
 /// The path that both take.
-const PATH: Wanted<'static> = Wanted("PATH", Form::Word, "The control socket of the run");
+const PATH: Argument<'static> = Argument("PATH", Form::Word, "The control socket of the run");
 
 /// The command `stop` and its help.
-pub const STOP: Told<'static> = Told {
+pub const STOP: CommandHelp<'static> = CommandHelp {
     name: "stop",
     full_name: "pdc stop",
     about: ABOUT_STOP,
@@ -63,12 +63,12 @@ pub const STOP: Told<'static> = Told {
 };
 
 /// The command `status` and its help.
-pub const STATUS: Told<'static> = Told {
+pub const STATUS: CommandHelp<'static> = CommandHelp {
     name: "status",
     full_name: "pdc status",
     about: ABOUT_STATUS,
     long: LONG_STATUS,
-    wanted: &[PATH, Wanted("json", Form::Flag, "Print one JSON object")],
+    wanted: &[PATH, Argument("json", Form::Flag, "Print one JSON object")],
 };
 
 /// The request of `status` that these words make; `None` if a word is missing, which the parser refuses first.

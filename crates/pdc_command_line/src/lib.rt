@@ -22,6 +22,6 @@ mod wrong;
 
 pub use command::parse;
 pub use request::{
-    Listen, MAX_PLACES, MAX_RATE, MarkConvert, MarkForget, MarkInit, Place, Play, Record, Request,
-    Running, ShowForm, Simulated, Status,
+    Listen, MAX_PLACES, MAX_RATE, MarkConvert, MarkForget, MarkInit, Play, PortOrHost, Record,
+    Request, Running, ShowForm, Simulated, Status,
 };

@@ -1,7 +1,7 @@
 //! The command `listen`.
 
 use crate::request::{Listen, Request};
-use crate::words::{Form, Told, Wanted, optional_number_of, short_number_of};
+use crate::words::{Argument, CommandHelp, Form, optional_number_of, short_number_of};
 use crate::wrong::Wrong;
 use clap::ArgMatches;
 
@@ -19,14 +19,14 @@ Example, what the merger of examples/pair sends:
   pdc listen 4751 100 | pdc show";
 
 /// The command and its help.
-pub const LISTEN: Told<'static> = Told {
+pub const LISTEN: CommandHelp<'static> = CommandHelp {
     name: "listen",
     full_name: "pdc listen",
     about: ABOUT,
     long: LONG,
     wanted: &[
-        Wanted("PORT", Form::Word, "The UDP port, 1 to 65535"),
-        Wanted(
+        Argument("PORT", Form::Word, "The UDP port, 1 to 65535"),
+        Argument(
             "COUNT",
             Form::Optional,
             "The number of datagrams after which it ends, 1 to 4294967295",

@@ -1,7 +1,7 @@
 //! The command `mark-convert`.
 
 use crate::request::{MarkConvert, Request};
-use crate::words::{Form, Told, Wanted};
+use crate::words::{Argument, CommandHelp, Form};
 use clap::ArgMatches;
 
 const ABOUT: &str = "Make a mark file of version 2 from one of version 1";
@@ -25,14 +25,14 @@ Example:
   pdc mark-convert a.mark a2.mark";
 
 /// The command and its help.
-pub const MARK_CONVERT: Told<'static> = Told {
+pub const MARK_CONVERT: CommandHelp<'static> = CommandHelp {
     name: "mark-convert",
     full_name: "pdc mark-convert",
     about: ABOUT,
     long: LONG,
     wanted: &[
-        Wanted("OLD", Form::Word, "The file of version 1"),
-        Wanted("NEW", Form::Word, "The file to make"),
+        Argument("OLD", Form::Word, "The file of version 1"),
+        Argument("NEW", Form::Word, "The file to make"),
     ],
 };
 

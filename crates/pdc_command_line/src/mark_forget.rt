@@ -1,7 +1,7 @@
 //! The command `mark-forget`.
 
 use crate::request::{MarkForget, Request};
-use crate::words::{Form, Told, Wanted};
+use crate::words::{Argument, CommandHelp, Form};
 use clap::ArgMatches;
 
 const ABOUT: &str = "Make a copy of a mark file whose configuration counts are 0";
@@ -32,14 +32,14 @@ Example:
   pdc mark-forget a.mark a.new.mark";
 
 /// The command and its help.
-pub const MARK_FORGET: Told<'static> = Told {
+pub const MARK_FORGET: CommandHelp<'static> = CommandHelp {
     name: "mark-forget",
     full_name: "pdc mark-forget",
     about: ABOUT,
     long: LONG,
     wanted: &[
-        Wanted("OLD", Form::Word, "The mark file that has the counts"),
-        Wanted("NEW", Form::Word, "The file to make"),
+        Argument("OLD", Form::Word, "The mark file that has the counts"),
+        Argument("NEW", Form::Word, "The file to make"),
     ],
 };
 

@@ -4,7 +4,7 @@ ghost use Rattle.clap.specs.Matches.{found_of};
 ghost use Rattle.pdc_command_line.specs.MarkInit.{AsksFor, HasWrongNumber, LacksWord};
 
 use crate::request::{MAX_RATE, MarkInit};
-use crate::words::{Form, Told, Wanted, short_number_of};
+use crate::words::{Argument, CommandHelp, Form, short_number_of};
 use crate::wrong::Wrong;
 use clap::ArgMatches;
 use pdc_frame::{MAX_ID, StreamId};
@@ -24,15 +24,15 @@ Example:
   pdc mark-init /var/lib/pdc/a.mark 201 50";
 
 /// The command and its help.
-pub const MARK_INIT: Told<'static> = Told {
+pub const MARK_INIT: CommandHelp<'static> = CommandHelp {
     name: "mark-init",
     full_name: "pdc mark-init",
     about: ABOUT,
     long: LONG,
     wanted: &[
-        Wanted("FILE", Form::Word, "The file to make"),
-        Wanted("ID", Form::Word, "The id of the node or merger, 1 to 65534"),
-        Wanted(
+        Argument("FILE", Form::Word, "The file to make"),
+        Argument("ID", Form::Word, "The id of the node or merger, 1 to 65534"),
+        Argument(
             "RATE",
             Form::Word,
             "The data rate, 1 to 240 frames per second",

@@ -1,6 +1,6 @@
 //! The command `mark-show`.
 
-use crate::words::{Form, Told, Wanted};
+use crate::words::{Argument, CommandHelp, Form};
 
 const ABOUT: &str = "Print what a mark file contains";
 
@@ -28,10 +28,10 @@ Example:
   pdc mark-show /var/lib/pdc/a.mark";
 
 /// The command and its help.
-pub const MARK_SHOW: Told<'static> = Told {
+pub const MARK_SHOW: CommandHelp<'static> = CommandHelp {
     name: "mark-show",
     full_name: "pdc mark-show",
     about: ABOUT,
     long: LONG,
-    wanted: &[Wanted("FILE", Form::Word, "The mark file")],
+    wanted: &[Argument("FILE", Form::Word, "The mark file")],
 };

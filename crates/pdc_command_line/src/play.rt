@@ -1,7 +1,7 @@
 //! The command `play`.
 
 use crate::request::{Play, Request};
-use crate::words::{Form, Told, Wanted};
+use crate::words::{Argument, CommandHelp, Form};
 use clap::ArgMatches;
 
 const ABOUT: &str = "Play a script of events on two nodes and a merger";
@@ -67,15 +67,15 @@ Example:
   pdc play a.toml b.toml m.toml < a_node_dies.txt";
 
 /// The command and its help.
-pub const PLAY: Told<'static> = Told {
+pub const PLAY: CommandHelp<'static> = CommandHelp {
     name: "play",
     full_name: "pdc play",
     about: ABOUT,
     long: LONG,
     wanted: &[
-        Wanted("A", Form::Word, "The settings of node A"),
-        Wanted("B", Form::Word, "The settings of node B"),
-        Wanted("M", Form::Word, "The settings of the merger"),
+        Argument("A", Form::Word, "The settings of node A"),
+        Argument("B", Form::Word, "The settings of node B"),
+        Argument("M", Form::Word, "The settings of the merger"),
     ],
 };
 

@@ -2,8 +2,8 @@
 ghost use Rattle.std.specs.Prelude.{◌<◌, ◌≤◌};
 ghost use Rattle.pdc_command_line.specs.declared.request.TheConstants.{MAX_RATE};
 
-use crate::request::{MAX_PLACES, MAX_RATE, MAX_SECONDS, Place, Request, Simulated};
-use crate::words::{Form, Told, Wanted, number_of, optional_number_of, short_number_of};
+use crate::request::{MAX_PLACES, MAX_RATE, MAX_SECONDS, PortOrHost, Request, Simulated};
+use crate::words::{Argument, CommandHelp, Form, number_of, optional_number_of, short_number_of};
 use crate::wrong::Wrong;
 use arrayvec::ArrayVec;
 use clap::ArgMatches;
@@ -34,39 +34,39 @@ Example, PMU 12, which waits for a consumer to ask:
   pdc pmu 12 50 3000 --tcp 0.0.0.0:4712";
 
 /// The command and its help.
-pub const PMU: Told<'static> = Told {
+pub const PMU: CommandHelp<'static> = CommandHelp {
     name: "pmu",
     full_name: "pdc pmu",
     about: ABOUT,
     long: LONG,
     wanted: &[
-        Wanted("ID", Form::Word, "The stream id, 1 to 65534"),
-        Wanted(
+        Argument("ID", Form::Word, "The stream id, 1 to 65534"),
+        Argument(
             "RATE",
             Form::Word,
             "The data rate, 1 to 240 frames per second",
         ),
-        Wanted(
+        Argument(
             "COUNT",
             Form::Word,
             "The number of data frames, 1 to 4294967295",
         ),
-        Wanted(
+        Argument(
             "PORT",
             Form::UpToSixteen,
             "Up to 16 UDP ports, each 1 to 65535 or HOST:PORT; at least one without --tcp",
         ),
-        Wanted(
+        Argument(
             "tcp",
             Form::Option("PORT"),
             "Serve up to 4 consumers at this port of 127.0.0.1 or ADDRESS:PORT",
         ),
-        Wanted(
+        Argument(
             "config-every",
             Form::Option("SECONDS"),
             "Send the configuration again every SECONDS seconds, 1 to 86400",
         ),
-        Wanted(
+        Argument(
             "grid",
             Form::Flag,
             "Simulate one bus of a grid, instead of one phasor that counts",
@@ -77,7 +77,7 @@ pub const PMU: Told<'static> = Told {
 /// Where else a PMU is to be found, and when its configuration goes out again.
 #[derive(Clone, Copy)]
 struct Aims<'a> {
-    tcp: Option<Place<'a>>,
+    tcp: Option<PortOrHost<'a>>,
     config_every: Option<u32>,
 }
 
@@ -92,12 +92,12 @@ struct Beat {
 }
 
 /// The place that a word says: a port of 127.0.0.1, or with a colon one elsewhere.
-fn place_of<'a>(name: &'static str, word: &'a str) -> Result<Place<'a>, Wrong<'a>> {
+fn place_of<'a>(name: &'static str, word: &'a str) -> Result<PortOrHost<'a>, Wrong<'a>> {
     if word.as_bytes().contains(&b':') {
-        return Ok(Place::At(word));
+        return Ok(PortOrHost::At(word));
     }
     match short_number_of(name, word, u16::MAX) {
-        Ok(port) => Ok(Place::Port(port)),
+        Ok(port) => Ok(PortOrHost::Port(port)),
         Err(wrong) => Err(wrong),
     }
 }
@@ -105,7 +105,7 @@ fn place_of<'a>(name: &'static str, word: &'a str) -> Result<Place<'a>, Wrong<'a
 /// Appends the places that these words say.
 fn add_places<'a>(
     words: &[&'a str],
-    places: &mut ArrayVec<Place<'a>, MAX_PLACES>,
+    places: &mut ArrayVec<PortOrHost<'a>, MAX_PLACES>,
 ) -> Result<(), Wrong<'a>> {
     for word in words {
         let place = place_of("[PORT]...", word)?;
@@ -117,7 +117,7 @@ fn add_places<'a>(
 }
 
 /// The TCP port at which it serves.
-fn tcp<'a>(matches: &ArgMatches<'a>) -> Result<Option<Place<'a>>, Wrong<'a>> {
+fn tcp<'a>(matches: &ArgMatches<'a>) -> Result<Option<PortOrHost<'a>>, Wrong<'a>> {
     match matches.get_str("tcp") {
         Some(word) => Ok(Some(place_of("--tcp <PORT>", word)?)),
         None => Ok(None),
@@ -142,7 +142,7 @@ fn config_every<'a>(matches: &ArgMatches<'a>) -> Result<Option<u32>, Wrong<'a>> 
 /// Where it serves, and when its configuration goes out again. The places that it sends to are appended.
 fn aims_of<'a>(
     matches: &ArgMatches<'a>,
-    places: &mut ArrayVec<Place<'a>, MAX_PLACES>,
+    places: &mut ArrayVec<PortOrHost<'a>, MAX_PLACES>,
 ) -> Result<Aims<'a>, Wrong<'a>> {
     add_places(matches.get_strs("PORT").unwrap_or(&[]), places)?;
     let tcp = tcp(matches)?;

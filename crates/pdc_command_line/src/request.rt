@@ -154,7 +154,7 @@ pub struct Listen {
 
 /// A port of 127.0.0.1, or of another address.
 #[derive(Clone, Copy, Debug, PartialEq, Eq)]
-pub enum Place<'a> {
+pub enum PortOrHost<'a> {
     /// The port with this number of 127.0.0.1.
     Port(u16),
     /// The place that this text names as `HOST:PORT`.
@@ -162,9 +162,9 @@ pub enum Place<'a> {
 }
 
 /// Port 1, to fill places of a list with.
-impl<'a> Default for Place<'a> {
-    fn default() -> Place<'a> {
-        Place::Port(1)
+impl<'a> Default for PortOrHost<'a> {
+    fn default() -> PortOrHost<'a> {
+        PortOrHost::Port(1)
     }
 }
 
@@ -178,9 +178,9 @@ pub struct Simulated<'a> {
     /// How many data frames are sent, at least 1.
     pub count: u32,
     /// The UDP ports that they go to, at most 16.
-    pub places: ArrayVec<Place<'a>, MAX_PLACES>,
+    pub places: ArrayVec<PortOrHost<'a>, MAX_PLACES>,
     /// The TCP port at which up to four consumers are served.
-    pub tcp: Option<Place<'a>>,
+    pub tcp: Option<PortOrHost<'a>>,
     /// After how many seconds its configuration is sent again; if there is none, it is sent once.
     pub config_every: Option<u32>,
     /// Whether it is a PMU at a bus of a simulated grid.

@@ -1,7 +1,7 @@
 //! The commands `node` and `merge`.
 
 use crate::request::{MAX_RECORD_SIZE, MAX_SECONDS, RECORD_SIZE, Record, Running};
-use crate::words::{Form, Told, Wanted, optional_number_of};
+use crate::words::{Argument, CommandHelp, Form, optional_number_of};
 use crate::wrong::Wrong;
 use clap::ArgMatches;
 
@@ -73,45 +73,45 @@ Example, a minute at 50 frames per second:
   pdc merge m.toml m.mark 3000";
 
 /// The words, options and flags of both.
-const WANTED: &[Wanted<'static>] = &[
-    Wanted("SETTINGS", Form::Word, "The settings file"),
-    Wanted("MARK", Form::Word, "The mark file"),
-    Wanted(
+const WANTED: &[Argument<'static>] = &[
+    Argument("SETTINGS", Form::Word, "The settings file"),
+    Argument("MARK", Form::Word, "The mark file"),
+    Argument(
         "TICKS",
         Form::Optional,
         "The number of ticks to run, 1 to 4294967295; without it, it runs until you stop it",
     ),
-    Wanted(
+    Argument(
         "every",
         Form::Option("SECONDS"),
         "Report counters on standard error every SECONDS seconds, 1 to 86400",
     ),
-    Wanted(
+    Argument(
         "quiet",
         Form::Flag,
         "Report only faults, and counters if --every asks for them",
     ),
-    Wanted(
+    Argument(
         "record",
         Form::Option("FILE"),
         "Record the run in FILE.START.000001 and the files that follow",
     ),
-    Wanted(
+    Argument(
         "record-size",
         Form::Beside("MEBIBYTES", "record"),
         "The greatest size of each record file, 1 to 65536; default 64",
     ),
-    Wanted(
+    Argument(
         "record-keep",
         Form::Beside("FILES", "record"),
         "Keep only this many of the last record files of this run; default all",
     ),
-    Wanted(
+    Argument(
         "record-lives",
         Form::Beside("LIVES", "record"),
         "Keep only the record files of this many last runs, this one included; default all",
     ),
-    Wanted(
+    Argument(
         "control",
         Form::Option("PATH"),
         "Listen at a Unix socket for `pdc stop PATH` and `pdc status PATH`",
@@ -119,7 +119,7 @@ const WANTED: &[Wanted<'static>] = &[
 ];
 
 /// The command `node` and its help.
-pub const NODE: Told<'static> = Told {
+pub const NODE: CommandHelp<'static> = CommandHelp {
     name: "node",
     full_name: "pdc node",
     about: ABOUT_NODE,
@@ -128,7 +128,7 @@ pub const NODE: Told<'static> = Told {
 };
 
 /// The command `merge` and its help.
-pub const MERGE: Told<'static> = Told {
+pub const MERGE: CommandHelp<'static> = CommandHelp {
     name: "merge",
     full_name: "pdc merge",
     about: ABOUT_MERGE,

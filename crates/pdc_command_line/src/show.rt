@@ -1,7 +1,7 @@
 //! The command `show`.
 
 use crate::request::ShowForm;
-use crate::words::{Form, Told, Wanted};
+use crate::words::{Argument, CommandHelp, Form};
 use clap::ArgMatches;
 
 const ABOUT: &str = "Print what frames in hexadecimal contain";
@@ -77,12 +77,12 @@ Examples:
 const FORMATS: &[&str] = &["json", "csv"];
 
 /// The command and its help.
-pub const SHOW: Told<'static> = Told {
+pub const SHOW: CommandHelp<'static> = CommandHelp {
     name: "show",
     full_name: "pdc show",
     about: ABOUT,
     long: LONG,
-    wanted: &[Wanted(
+    wanted: &[Argument(
         "format",
         Form::OneOf("FORMAT", FORMATS),
         "Print for programs, as json or csv",

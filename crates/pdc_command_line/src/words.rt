@@ -28,11 +28,11 @@ pub enum Form<'a> {
 
 /// A word, an option or a flag of a command: its name, its form, and its line of the help.
 #[derive(Clone, Copy)]
-pub struct Wanted<'a>(pub &'a str, pub Form<'a>, pub &'a str);
+pub struct Argument<'a>(pub &'a str, pub Form<'a>, pub &'a str);
 
 /// A command as its help describes it.
 #[derive(Clone, Copy)]
-pub struct Told<'a> {
+pub struct CommandHelp<'a> {
     /// Its name,
     pub name: &'a str,
     /// and behind that of the program.
@@ -42,7 +42,7 @@ pub struct Told<'a> {
     /// and at length.
     pub long: &'a str,
     /// Its words, options and flags, in this order.
-    pub wanted: &'a [Wanted<'a>],
+    pub wanted: &'a [Argument<'a>],
 }
 
 /// An argument in this form.
@@ -71,13 +71,13 @@ fn in_form<'a>(arg: Arg<'a>, name: &'a str, form: Form<'a>) -> Result<Arg<'a>, A
 }
 
 /// The word, option or flag, as `clap` reads it.
-fn arg<'a>(alloc: Global, wanted: &Wanted<'a>) -> Result<Arg<'a>, AllocError> {
-    let Wanted(name, form, help) = *wanted;
+fn arg<'a>(alloc: Global, wanted: &Argument<'a>) -> Result<Arg<'a>, AllocError> {
+    let Argument(name, form, help) = *wanted;
     in_form(Arg::new(alloc, name).help(help), name, form)
 }
 
 /// The command, as `clap` reads it.
-pub fn command_of<'a>(alloc: Global, told: &Told<'a>) -> Result<Command<'a>, AllocError> {
+pub fn command_of<'a>(alloc: Global, told: &CommandHelp<'a>) -> Result<Command<'a>, AllocError> {
     let mut command = Command::new(alloc, told.name)
         .bin_name(told.full_name)?
         .about(told.about)

@@ -1,6 +1,6 @@
 //! What is wrong with words that the parser lets pass.
 
-use crate::words::{Told, command_of};
+use crate::words::{CommandHelp, command_of};
 use clap::Error;
 use clap::error::ErrorKind;
 use std::alloc::{AllocError, Global};
@@ -48,7 +48,11 @@ fn message_of(alloc: Global, wrong: &Wrong<'_>) -> Result<String, AllocError> {
 /// # Errors
 ///
 /// There is no memory.
-pub fn error_of(alloc: Global, told: &Told<'_>, wrong: &Wrong<'_>) -> Result<Error, AllocError> {
+pub fn error_of(
+    alloc: Global,
+    told: &CommandHelp<'_>,
+    wrong: &Wrong<'_>,
+) -> Result<Error, AllocError> {
     let message = message_of(alloc, wrong)?;
     command_of(alloc, told)?.error(kind_of(wrong), message.as_str())
 }

@@ -2,7 +2,7 @@
 ghost use Rattle.std.specs.Prelude.{◌<◌, ◌≤◌};
 ghost use Rattle.pdc_watch.specs.declared.cell.TheConstants.{MAX_RATE};
 
-use crate::words::Asked;
+use crate::words::WatchCommand;
 use pdc_frame::StreamId;
 use pdc_life::Timing;
 use pdc_settings::{MergerSettings, Mistake, Network, NodeSettings, SettingsFault, mistake_in};
@@ -148,7 +148,7 @@ fn load_merger_at<R: Files<File = File> + AllocGlobal>(
 /// The first file of which the settings are not to be used, and why.
 pub fn load<'a, R: Files<File = File> + AllocGlobal>(
     rt: &R,
-    asked: Asked<'a>,
+    asked: WatchCommand<'a>,
 ) -> Result<Three<Session>, (&'a str, LoadFault)> {
     let first = match load_node(rt, asked.first) {
         Ok(session) => session,

@@ -21,7 +21,7 @@ const PORT: u16 = 8080;
 
 /// What is asked for: three settings files, and where the page is to be.
 #[derive(Clone, Copy)]
-pub struct Asked<'a> {
+pub struct WatchCommand<'a> {
     pub first: &'a str,
     pub second: &'a str,
     pub merger: &'a str,
@@ -79,7 +79,7 @@ fn port_of(text: &str) -> Option<u16> {
 /// # Errors
 ///
 /// One is missing or too many, or the port is none; `--help` is told as an error of status 0.
-pub fn words_of<'a>(alloc: Global, words: &'a [String]) -> Result<Asked<'a>, Error> {
+pub fn words_of<'a>(alloc: Global, words: &'a [String]) -> Result<WatchCommand<'a>, Error> {
     let matches = command(alloc)?.try_get_matches_from(words)?;
     let port = match matches.get_str("port") {
         None => PORT,
@@ -88,7 +88,7 @@ pub fn words_of<'a>(alloc: Global, words: &'a [String]) -> Result<Asked<'a>, Err
             None => return Err(no_port(alloc, text)?),
         },
     };
-    Ok(Asked {
+    Ok(WatchCommand {
         first: matches.get_str("A").unwrap_or(""),
         second: matches.get_str("B").unwrap_or(""),
         merger: matches.get_str("M").unwrap_or(""),
