@@ -19,5 +19,5 @@ pub use comparison::Comparison;
 pub use entries::{Entries, Unread};
 pub use files::{Fault, Files, Opens, Takes, Walked, Wrong};
 pub use grouping::{Grouped, Misfit, Owned, Owner, files_of_each, group_files};
-pub use record::halt_text;
+pub use record::{halt_text, tell_unplayed, text_of};
 pub use verdict::Verdict;

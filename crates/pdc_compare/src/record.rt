@@ -3,7 +3,7 @@
 use crate::files::{Files, Opens, Takes, Walked, Wrong};
 use crate::verdict::Verdict;
 use pdc_record::{Entry, What};
-use pdc_replay::{Halt, Player, SeenRow, print_halt};
+use pdc_replay::{Halt, Player, SeenRow, print_halt, print_unplayed};
 use std::alloc::Global;
 use std::io;
 use std::io::Write;
@@ -44,8 +44,38 @@ impl Takes for Rows {
 pub fn halt_text(alloc: Global, halt: &Halt) -> io::Result<String> {
     let mut text = Vec::new(alloc);
     print_halt(&mut text, alloc, halt)?;
-    text.pop();
-    String::from_utf8(text).map_err(|_| io::ErrorKind::InvalidData.into())
+    text_of(text)
+}
+
+/// The text of lines, without the end of the last one.
+///
+/// # Errors
+///
+/// It is no text.
+pub fn text_of(mut lines: Vec<u8>) -> io::Result<String> {
+    lines.pop();
+    String::from_utf8(lines).map_err(|_| io::ErrorKind::InvalidData.into())
+}
+
+/// Tells of a record that was played with which step it begins, where that is not its first, and which steps were not compared; each line
+/// begins with the name. Answers whether all were.
+///
+/// # Errors
+///
+/// There is no memory.
+pub fn tell_unplayed(player: &Player, name: &str, out: &mut Vec<u8>) -> io::Result<bool> {
+    if let Some(first) = player.first() {
+        writeln!(
+            out,
+            "{name}the record begins with step {first}: it was played from what its first file carries over"
+        )?;
+    }
+    for unplayed in player.unplayed() {
+        write!(out, "{name}")?;
+        print_unplayed(out, unplayed)?;
+        writeln!(out)?;
+    }
+    Ok(player.unplayed().is_empty())
 }
 
 impl<'a> Record<'a> {
@@ -111,15 +141,21 @@ impl<'a> Record<'a> {
                 Verdict::Refused
             });
         }
-        let (steps, frames) = (self.rows.player.steps(), self.rows.player.frames());
-        if !self.files.is_broken() {
-            writeln!(out, "{name}: {steps} steps, {frames} frames: as recorded")?;
-            return Ok(Verdict::AsRecorded);
-        }
+        let player = &self.rows.player;
+        let (steps, frames) = (player.steps(), player.frames());
+        let before = if self.files.is_broken() {
+            " before it"
+        } else {
+            ""
+        };
         writeln!(
             out,
-            "{name}: {steps} steps, {frames} frames before it: as recorded"
+            "{name}: {steps} steps, {frames} frames{before}: as recorded"
         )?;
+        let front = format!(in alloc; "{name}: ")?;
+        if !tell_unplayed(player, front.as_str(), out)? {
+            return Ok(Verdict::Refused.and(self.files.verdict()));
+        }
         Ok(self.files.verdict())
     }
 }

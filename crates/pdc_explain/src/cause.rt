@@ -27,6 +27,8 @@ pub enum Fate {
     Nothing,
     /// It may be among steps that are not in the record.
     NotRecorded,
+    /// It was not taken; what was refused may be among steps that are not in the record.
+    NotTaken,
     /// It came when the row had closed.
     Late,
     /// It was of a section of this count that was taken, and not adopted yet; and at which tick after it that was.
@@ -113,6 +115,7 @@ pub fn fate_of(story: &Story, stream: usize, column: usize) -> Fate {
     match came.arrivals.as_slice().first() {
         Some(arrived) if story.gap.is_none() || !is_again(arrived) => fate_of_arrival(arrived),
         None if story.gap.is_none() => Fate::Nothing,
+        None if story.is_carried => Fate::NotTaken,
         _ => Fate::NotRecorded,
     }
 }
@@ -125,9 +128,18 @@ fn is_again(arrived: &Arrived) -> bool {
     )
 }
 
-/// That its instant was published or given up before the life began.
+/// That its instant was published or given up before the life began, or before the record does.
 fn print_below_floor<W: Write>(writer: &mut W, about: &About) -> io::Result<()> {
     let (start, floor) = (about.start, about.floor);
+    if about.first > 0 {
+        write!(writer, ", at or below instant {floor} (")?;
+        print_time(writer, time_of(floor, about.rate()))?;
+        return write!(
+            writer,
+            "), up to which all was published or given up before the record begins: {}",
+            Refusal::Late.text()
+        );
+    }
     write!(writer, ", at or below the floor {floor} (")?;
     print_time(writer, time_of(floor, about.rate()))?;
     write!(
@@ -139,7 +151,7 @@ fn print_below_floor<W: Write>(writer: &mut W, about: &About) -> io::Result<()> 
 
 /// That it came too late.
 fn print_late<W: Write>(writer: &mut W, about: &About, story: &Story, time: u64) -> io::Result<()> {
-    match (story.opened, story.closed, story.gap) {
+    match (story.opened, story.closed, story.row_gap()) {
         (Some(opened), Some(closed), None) => {
             write!(writer, "its data came ")?;
             print_span(writer, opened.time, time)?;
@@ -191,9 +203,16 @@ fn print_nothing<W: Write>(
     }
 }
 
-/// Among which steps it may be.
+/// Among which steps it may be, or what was refused of it.
 fn print_not_recorded<W: Write>(writer: &mut W, story: &Story) -> io::Result<()> {
-    write!(writer, "its data may be among ")?;
+    if story.is_carried {
+        write!(
+            writer,
+            "no data of it was taken; what was refused may be among "
+        )?;
+    } else {
+        write!(writer, "its data may be among ")?;
+    }
     if let Some(gap) = &story.gap {
         print_gap(writer, gap)?;
     }
@@ -258,7 +277,7 @@ pub fn print_fate<W: Write>(
     let time = time_of_data(came);
     match fate {
         Fate::Nothing => return print_nothing(writer, about, story, came),
-        Fate::NotRecorded => return print_not_recorded(writer, story),
+        Fate::NotRecorded | Fate::NotTaken => return print_not_recorded(writer, story),
         Fate::Late => return print_late(writer, about, story, time),
         Fate::NotAdopted { count, tick } => return print_adopted(writer, count, tick),
         _ => print_at(writer, "its data came at ", time)?,
@@ -310,6 +329,7 @@ pub fn print_kind<W: Write>(writer: &mut W, fate: Fate) -> io::Result<()> {
         Fate::Taken => "taken",
         Fate::Nothing => "nothing came",
         Fate::NotRecorded => "not in the record",
+        Fate::NotTaken => "none was taken",
         Fate::Late => Refusal::Late.text(),
         Fate::NotAdopted { .. } => "its configuration not adopted yet",
         Fate::NoConfiguration | Fate::ConfigRefused(_) => Refusal::NoConfig.text(),

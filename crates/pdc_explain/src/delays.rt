@@ -31,6 +31,8 @@ struct Seen {
 pub struct Delays {
     alloc: Global,
     about: Option<About>,
+    /// The number of the first step of the file that is read, while the steps are read that it carries over.
+    front: Option<u64>,
     spreads: Vec<Spread>,
     seen: Vec<Seen>,
     last_to_come: LastToCome,
@@ -66,6 +68,7 @@ impl Delays {
         Ok(Delays {
             alloc,
             about: None,
+            front: None,
             spreads: Vec::new(alloc),
             seen,
             last_to_come: LastToCome::new(alloc)?,
@@ -137,16 +140,32 @@ impl Delays {
         Ok(())
     }
 
+    /// Whether an entry is a step that the file carries over; where one is not, they are over.
+    fn is_at_front(&mut self, entry: &Entry<'_>) -> bool {
+        let is_carried = match self.front {
+            Some(first) => entry.is_carried(first),
+            None => false,
+        };
+        if !is_carried {
+            self.front = None;
+        }
+        is_carried
+    }
+
     /// Takes an entry.
     ///
     /// # Errors
     ///
     /// The record does not begin as one does, or there is no memory.
     pub fn take(&mut self, entry: &Entry<'_>) -> Result<(), Unexplained> {
+        if self.is_at_front(entry) {
+            return Ok(());
+        }
         match &entry.what {
             What::Begun(begun) => {
-                let about = About::of(self.alloc, begun)?;
+                let about = About::of(self.alloc, begun, entry.step)?;
                 self.begin(entry.step, about)?;
+                self.front = Some(entry.step);
             }
             What::Arrived {
                 stream,

@@ -15,14 +15,14 @@ mod last_to_come;
 mod ranges;
 mod row_lines;
 mod spread;
+mod story_lines;
 mod tally;
-mod telling;
 mod texts;
 
 pub use delays::{Delays, tell_delays};
 pub use pdc_story::{
-    About, Follower, Gap, Story, Unexplained, Wanted, print_time, time_of, wanted_of,
+    About, Follower, Gap, Selection, Story, Unexplained, print_time, time_of, wanted_of,
 };
+pub use story_lines::tell_story;
 pub use tally::Tally;
-pub use telling::tell_story;
 pub use texts::print_gap;

@@ -1,6 +1,6 @@
 //! Instants that follow one another, and of which the same is told.
 
-use crate::telling::tell_absent;
+use crate::story_lines::tell_absent;
 use crate::texts::print_at;
 use pdc_story::{About, Follower, Gap, Story, print_time, time_of};
 use std::alloc::Global;

@@ -165,7 +165,7 @@ pub fn tell_row<W: Write>(
     story: &Story,
     end: u64,
 ) -> io::Result<()> {
-    if let Some(gap) = &story.gap {
+    if let Some(gap) = story.row_gap() {
         return tell_row_beside(writer, about, story, gap);
     }
     write!(writer, "the row ")?;

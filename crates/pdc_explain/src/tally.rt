@@ -3,7 +3,7 @@
 use crate::cause::{fate_of, print_kind};
 use crate::lanes::print_lane_kinds;
 use crate::ranges::Range;
-use crate::telling::is_absent;
+use crate::story_lines::is_absent;
 use pdc_story::{About, Follower, Story};
 use std::alloc::Global;
 use std::io::Write;

@@ -22,7 +22,7 @@ pub struct Begun<'a> {
     pub rate: u16,
     /// The number of its start.
     pub start: u32,
-    /// The instant up to which all was published or given up before.
+    /// The instant up to which all was published or given up before the first step of the file.
     pub floor: u64,
     /// For each column the count that was stored.
     pub counts: [u16; MAX_PMUS],

@@ -1,4 +1,6 @@
 //! The entries of a record.
+ghost use Rattle.std.specs.Prelude.{◌≡◌};
+ghost use Rattle.pdc_record.specs.Carried.{is_carried};
 
 use crate::begun::Begun;
 use pdc_life::{MAX_PMUS, Outcome};
@@ -17,7 +19,8 @@ pub struct Entry<'a> {
 /// What happened.
 #[derive(Clone, Copy, Debug, PartialEq, Eq)]
 pub enum What<'a> {
-    /// The life began so; each file of a record begins with it, and its number is that of the first step in the file.
+    /// The life began so; each file of a record begins with it, and its number is that of the first step in the file. Directly behind it stand
+    /// steps with lower numbers, which the file carries over.
     Begun(Begun<'a>),
     /// A step: a datagram arrived for a stream, and was answered.
     Arrived {
@@ -78,4 +81,13 @@ pub enum What<'a> {
         /// The number of the first step that is there again.
         until: u64,
     },
+}
+
+impl Entry<'_> {
+    /// Whether it is a step that a file carries over whose first step has this number: a datagram or a tick from before it.
+    pub fn is_carried(&self, first: u64) -> bool
+        ensures { result ≡ is_carried self.now first }
+    {
+        self.step < first && matches!(self.what, What::Arrived { .. } | What::Ticked { .. })
+    }
 }

@@ -5,7 +5,7 @@ use crate::words::{Explained, Question};
 use crate::{DONE, FAILED, REFUSED};
 use pdc_compare::{Files, Owner, Takes, Verdict, files_of_each};
 use pdc_explain::{
-    Delays, Follower, Gap, Story, Tally, Unexplained, Wanted, print_gap, tell_delays, tell_story,
+    Delays, Follower, Gap, Selection, Story, Tally, Unexplained, print_gap, tell_delays, tell_story,
 };
 use pdc_record::{Entry, Role};
 use std::alloc::Global;
@@ -27,11 +27,11 @@ struct Instants {
 }
 
 impl Instants {
-    fn new(alloc: Global, wanted: Wanted) -> Instants {
+    fn new(alloc: Global, wanted: Selection) -> Instants {
         Instants {
             follower: Follower::new(alloc, wanted),
             tally: Tally::new(alloc),
-            all: wanted == Wanted::All,
+            all: wanted == Selection::All,
             told: false,
             out: Vec::new(alloc),
             fault: None,
@@ -202,7 +202,7 @@ fn print_instants(
 }
 
 /// Tells of instants.
-fn explain_instants(rt: &HostRuntime, files: &mut Files<'_>, wanted: Wanted) -> io::Result<u8> {
+fn explain_instants(rt: &HostRuntime, files: &mut Files<'_>, wanted: Selection) -> io::Result<u8> {
     let mut instants = Instants::new(rt.alloc(), wanted);
     print_instants(rt, files, &mut instants)?;
     ended(rt, files.verdict(), instants.fault)

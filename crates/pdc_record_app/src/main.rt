@@ -12,7 +12,7 @@ use explaining::run_explain;
 use replaying::run_replay;
 use std::io;
 use std::process::ExitCode;
-use words::{Asked, words_of};
+use words::{RecordCommand, words_of};
 
 /// The exit statuses.
 const DONE: u8 = 0;
@@ -24,8 +24,8 @@ const FAILED: u8 = 3;
 /// Does what the words ask for, and answers the exit status.
 fn run(rt: &HostRuntime, words: &[String]) -> io::Result<u8> {
     match words_of(rt.alloc(), words) {
-        Ok(Asked::Replay(asked)) => run_replay(rt, &asked),
-        Ok(Asked::Explain(asked)) => run_explain(rt, &asked),
+        Ok(RecordCommand::Replay(asked)) => run_replay(rt, &asked),
+        Ok(RecordCommand::Explain(asked)) => run_explain(rt, &asked),
         Err(error) => {
             error.print(rt)?;
             Ok(error.exit_code() as u8)

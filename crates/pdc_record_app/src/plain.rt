@@ -2,18 +2,24 @@
 
 use crate::{DONE, FAILED, REFUSED};
 use pdc_compare::Entries;
-use pdc_record::Entry;
+use pdc_record::{Entry, What};
 use pdc_replay::{MOST_STEPS, NotPlayed, play_plain};
 use std::alloc::{AllocError, Global};
 use std::{fs, io};
 
-/// Adds the entries of a file, up to what is none.
+/// Adds the entries of a file, up to what is none, without the steps that it carries over.
 fn add_entries<'a>(bytes: &'a [u8], to: &mut Vec<Entry<'a>>) -> Result<(), AllocError> {
     let mut entries = Entries::from(bytes, 0);
+    let mut first = 0u64;
     for _ in 0..=bytes.len() {
-        match entries.next_entry() {
-            Ok(Some(entry)) => to.push(entry)?,
-            _ => return Ok(()),
+        let Ok(Some(entry)) = entries.next_entry() else {
+            return Ok(());
+        };
+        if matches!(entry.what, What::Begun(_)) {
+            first = entry.step;
+        }
+        if !entry.is_carried(first) {
+            to.push(entry)?;
         }
     }
     Ok(())

@@ -5,7 +5,10 @@ use crate::plain::played_plainly;
 use crate::printing::{Disk, PIECE, Tells, status_of, walk};
 use crate::words::Replayed;
 use crate::{DONE, FAILED, REFUSED};
-use pdc_compare::{Comparison, Files, Grouped, Misfit, Takes, Verdict, group_files, halt_text};
+use pdc_compare::{
+    Comparison, Files, Grouped, Misfit, Takes, Verdict, group_files, halt_text, tell_unplayed,
+    text_of,
+};
 use pdc_record::{Entry, What};
 use pdc_replay::{Halt, Player};
 use std::alloc::{AllocError, Global};
@@ -90,8 +93,8 @@ fn alike_text(alloc: Global, player: &Player, is_to_the_end: bool) -> Result<Str
     format!(in alloc; "{steps} steps, {frames} frames{before}: as recorded")
 }
 
-/// What is told of a record that was played, and the exit status.
-fn result_of(alloc: Global, playing: &Playing, verdict: Verdict) -> io::Result<(String, u8)> {
+/// What is told of how far a record is as recorded, and the exit status where all of it was compared.
+fn alike_of(alloc: Global, playing: &Playing, verdict: Verdict) -> io::Result<(String, u8)> {
     match &playing.halt {
         Some(halt) => Ok((halt_text(alloc, halt)?, status_at(halt))),
         None => {
@@ -100,6 +103,20 @@ fn result_of(alloc: Global, playing: &Playing, verdict: Verdict) -> io::Result<(
             Ok((text, status_of(verdict)))
         }
     }
+}
+
+/// What is told of a record that was played, and the exit status.
+fn result_of(alloc: Global, playing: &Playing, verdict: Verdict) -> io::Result<(String, u8)> {
+    let (alike, status) = alike_of(alloc, playing, verdict)?;
+    let mut out = Vec::new(alloc);
+    writeln!(out, "{alike}")?;
+    let is_whole = tell_unplayed(&playing.player, "", &mut out)?;
+    let status = if is_whole {
+        status
+    } else {
+        status.max(REFUSED)
+    };
+    Ok((text_of(out)?, status))
 }
 
 /// Tells what came of a record on the plain program, and answers the exit status.

@@ -2,7 +2,7 @@
 
 use clap::error::ErrorKind;
 use clap::{Arg, ArgAction, ArgMatches, Command, Error};
-use pdc_explain::{Wanted, wanted_of};
+use pdc_explain::{Selection, wanted_of};
 use pdc_version::VERSION;
 use std::alloc::{AllocError, Global};
 
@@ -68,7 +68,7 @@ pub struct Replayed<'a> {
 /// What `explain` is to tell.
 #[derive(Clone, Copy)]
 pub enum Question {
-    Instants(Wanted),
+    Instants(Selection),
     Delays,
 }
 
@@ -81,7 +81,7 @@ pub struct Explained<'a> {
 
 /// What is asked for.
 #[derive(Drop)]
-pub enum Asked<'a> {
+pub enum RecordCommand<'a> {
     Replay(Replayed<'a>),
     Explain(Explained<'a>),
 }
@@ -91,7 +91,7 @@ type Choice = (&'static str, &'static str);
 
 /// A command as its help tells it.
 #[derive(Clone, Copy)]
-struct Told<'a> {
+struct CommandText<'a> {
     /// Its name,
     name: &'a str,
     /// and behind that of the program.
@@ -106,7 +106,7 @@ struct Told<'a> {
     choices: &'a [Choice],
 }
 
-const REPLAY: Told<'static> = Told {
+const REPLAY: CommandText<'static> = CommandText {
     name: "replay",
     full_name: "pdc replay",
     about: "Play records again, and compare each answer and each frame",
@@ -118,7 +118,7 @@ const REPLAY: Told<'static> = Told {
     ],
 };
 
-const EXPLAIN: Told<'static> = Told {
+const EXPLAIN: CommandText<'static> = CommandText {
     name: "explain",
     full_name: "pdc explain",
     about: "Explain from a record what happened at an instant",
@@ -153,7 +153,7 @@ fn flag<'a>(alloc: Global, choice: &Choice) -> Arg<'a> {
 }
 
 /// The command, as `clap` reads it.
-fn command_of<'a>(alloc: Global, told: &Told<'a>) -> Result<Command<'a>, AllocError> {
+fn command_of<'a>(alloc: Global, told: &CommandText<'a>) -> Result<Command<'a>, AllocError> {
     let mut command = Command::new(alloc, told.name)
         .bin_name(told.full_name)?
         .display_name(told.full_name)?
@@ -181,7 +181,7 @@ fn program<'a>(alloc: Global) -> Result<Command<'a>, AllocError> {
 fn with<'a>(
     alloc: Global,
     program: Result<Command<'a>, AllocError>,
-    told: &Told<'a>,
+    told: &CommandText<'a>,
 ) -> Result<Command<'a>, AllocError> {
     program?.subcommand(command_of(alloc, told)?)
 }
@@ -209,7 +209,7 @@ fn wrong(alloc: Global, message: &str) -> Result<Error, AllocError> {
 }
 
 /// The instant that a word tells.
-fn instant_of(alloc: Global, word: Option<&str>) -> Result<Wanted, Error> {
+fn instant_of(alloc: Global, word: Option<&str>) -> Result<Selection, Error> {
     match word.and_then(wanted_of) {
         Some(wanted) => Ok(wanted),
         None => Err(wrong(
@@ -227,7 +227,7 @@ fn question_of(
 ) -> Result<Question, Error> {
     match (matches.get_flag("absent"), matches.get_flag("delays")) {
         (true, true) => Err(wrong(alloc, "--absent and --delays cannot be given together")?),
-        (true, false) => Ok(Question::Instants(Wanted::All)),
+        (true, false) => Ok(Question::Instants(Selection::All)),
         (false, true) => Ok(Question::Delays),
         (false, false) => Ok(Question::Instants(instant_of(alloc, words.pop())?)),
     }
@@ -259,10 +259,14 @@ fn replayed_of<'a>(alloc: Global, matches: &ArgMatches<'a>) -> Result<Replayed<'
 }
 
 /// What is asked of the command with this name.
-fn asked_of<'a>(alloc: Global, name: &str, matches: &ArgMatches<'a>) -> Result<Asked<'a>, Error> {
+fn asked_of<'a>(
+    alloc: Global,
+    name: &str,
+    matches: &ArgMatches<'a>,
+) -> Result<RecordCommand<'a>, Error> {
     match name {
-        "explain" => Ok(Asked::Explain(explained_of(alloc, matches)?)),
-        _ => Ok(Asked::Replay(replayed_of(alloc, matches)?)),
+        "explain" => Ok(RecordCommand::Explain(explained_of(alloc, matches)?)),
+        _ => Ok(RecordCommand::Replay(replayed_of(alloc, matches)?)),
     }
 }
 
@@ -271,7 +275,7 @@ fn asked_of<'a>(alloc: Global, name: &str, matches: &ArgMatches<'a>) -> Result<A
 /// # Errors
 ///
 /// What `clap` has to say: the help that was asked for, or what is wrong.
-pub fn words_of<'a>(alloc: Global, words: &'a [String]) -> Result<Asked<'a>, Error> {
+pub fn words_of<'a>(alloc: Global, words: &'a [String]) -> Result<RecordCommand<'a>, Error> {
     let matches = pdc(alloc)?.try_get_matches_from(words)?;
     match matches.subcommand() {
         Some((name, inner)) => asked_of(alloc, name, inner),

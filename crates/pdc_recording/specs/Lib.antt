@@ -1,3 +1,4 @@
+pub mod Carrying
 pub mod Kept
 pub mod Lives
 pub mod Lost

@@ -1,6 +1,6 @@
 //! Entries in the order of their numbers.
 
-use crate::recording::{Place, Waiting};
+use crate::recording::{Position, Waiting};
 use crate::room::MOST_BYTES;
 use std::alloc::Global;
 use std::collections::BTreeMap;
@@ -56,9 +56,9 @@ impl Ordering {
     pub fn take(&mut self, waiting: Waiting) -> Option<Vec<u8>> {
         let Waiting { place, bytes } = waiting;
         let (step, behind) = match place {
-            Place::Step(step) => (step, 0),
-            Place::Behind(step) => (step, 1),
-            Place::Anywhere => return Some(bytes),
+            Position::Step(step) => (step, 0),
+            Position::Behind(step) => (step, 1),
+            Position::Anywhere => return Some(bytes),
         };
         if step < self.next {
             return Some(bytes);

@@ -1,5 +1,7 @@
 //! The files of a record.
 
+use crate::carried::Carried;
+use crate::carrying::begins_next;
 use crate::shelf::Shelf;
 use pdc_record::{Begun, Entry, What, write_entry};
 use std::alloc::{AllocError, Global};
@@ -22,7 +24,7 @@ pub struct Limits {
 }
 
 /// The files of the record of a life, `NAME.START.000001` and those that follow it, with the number of the life's start. Each begins with
-/// what the life began with.
+/// what the life began with, a later one with the steps that it carries over.
 #[derive(Drop)]
 pub struct Series<'a> {
     alloc: Global,
@@ -186,36 +188,55 @@ impl<'a> Series<'a> {
         }
     }
 
+    /// What a file begins with whose first step has this number: what the life began with, and what is carried over.
+    fn front_of(&self, step: u64, time: u64, carried: &Carried) -> io::Result<Vec<u8>> {
+        let begun = Begun {
+            floor: carried.floor().unwrap_or(self.begun.floor),
+            ..self.begun
+        };
+        let mut front = Vec::new(self.alloc);
+        append_entry(&head_of(&begun, step, time), &mut front)?;
+        carried.append_to(&mut front).map_err(|_| no_memory())?;
+        Ok(front)
+    }
+
+    /// What a file begins with that says which steps are lacking before it.
+    fn front_behind(&self, until: u64, time: u64) -> io::Result<Vec<u8>> {
+        let step = self.next;
+        let mut front = Vec::new(self.alloc);
+        append_entry(&head_of(&self.begun, step, time), &mut front)?;
+        let what = What::Missing { until };
+        append_entry(&Entry { step, time, what }, &mut front)?;
+        Ok(front)
+    }
+
     /// Begins the next file, and removes the one that is not to stay.
-    fn begin_next<R: Shelf>(&mut self, rt: &R, step: u64, time: u64) -> io::Result<u64> {
+    fn begin_next<R: Shelf>(
+        &mut self,
+        rt: &R,
+        step: u64,
+        time: u64,
+        carried: &Carried,
+    ) -> io::Result<u64> {
         let more = self.flush(step)?;
         let number = self.number.saturating_add(1);
         self.file = open_numbered(rt, self.alloc, self.name, self.begun.start, number)?;
         self.number = number;
         self.written = 0;
-        append_entry(&head_of(&self.begun, step, time), &mut self.gathered)?;
+        self.gathered = self.front_of(step, time, carried)?;
         self.len = count_of(self.gathered.as_slice());
         self.remove_old(rt);
         Ok(more)
     }
 
-    /// Appends the bytes of an entry behind all below the step with this number. Where the file is full, they begin the next one, whose first
-    /// step that is. Answers how many bytes were written meanwhile.
+    /// Appends the bytes of an entry to the file that is written, behind all below the step with this number. Answers how many bytes were
+    /// written meanwhile.
     ///
     /// # Errors
     ///
-    /// A file cannot be made or written, or there is no memory.
-    pub fn append<R: Shelf>(
-        &mut self,
-        rt: &R,
-        bytes: &[u8],
-        step: u64,
-        time: u64,
-    ) -> io::Result<u64> {
-        let more = count_of(bytes);
-        let written = if self.len.saturating_add(more) > self.limits.size {
-            self.begin_next(rt, step, time)?
-        } else if self.gathered.len() >= GATHERED {
+    /// The file cannot be written, or there is no memory.
+    pub fn append(&mut self, bytes: &[u8], step: u64) -> io::Result<u64> {
+        let written = if self.gathered.len() >= GATHERED {
             self.flush(step)?
         } else {
             0
@@ -223,8 +244,30 @@ impl<'a> Series<'a> {
         if self.gathered.extend_from_slice(bytes).is_err() {
             return Err(no_memory());
         }
-        self.len = self.len.saturating_add(more);
+        self.len = self.len.saturating_add(count_of(bytes));
         Ok(written)
+    }
+
+    /// The same, but where the file is full the entry is the first of the next one, behind the steps that are carried over.
+    ///
+    /// # Errors
+    ///
+    /// A file cannot be made or written, or there is no memory.
+    pub fn append_in_order<R: Shelf>(
+        &mut self,
+        rt: &R,
+        bytes: &[u8],
+        step: u64,
+        time: u64,
+        carried: &Carried,
+    ) -> io::Result<u64> {
+        let len = self.len.saturating_add(count_of(bytes));
+        let mut written = 0u64;
+        if begins_next(len, self.limits.size, carried.is_quiet()) {
+            written = self.begin_next(rt, step, time, carried)?;
+        }
+        let more = self.append(bytes, step)?;
+        Ok(written.saturating_add(more))
     }
 
     /// Gives up the file that is written: what was not written whole is taken away from it, and a file of which nothing was is removed.
@@ -240,20 +283,24 @@ impl<'a> Series<'a> {
         self.next
     }
 
-    /// Goes on in the next file, which says that the steps up to the one before `until` are lacking, if there is one. Answers how many bytes
-    /// were written.
+    /// Goes on in the next file. Where the steps up to the one before `until` are lacking, it begins with that one and carries over what a core
+    /// must know, or else it says that they are. Answers how many bytes were written.
     ///
     /// # Errors
     ///
     /// The file cannot be made or written, or there is no memory. Then there is no new file.
-    pub fn resume<R: Shelf>(&mut self, rt: &R, until: Option<u64>, time: u64) -> io::Result<u64> {
-        let (alloc, step) = (self.alloc, self.next);
-        let mut front = Vec::new(alloc);
-        append_entry(&head_of(&self.begun, step, time), &mut front)?;
-        if let Some(until) = until {
-            let what = What::Missing { until };
-            append_entry(&Entry { step, time, what }, &mut front)?;
-        }
+    pub fn resume<R: Shelf>(
+        &mut self,
+        rt: &R,
+        until: Option<u64>,
+        time: u64,
+        carried: &Carried,
+    ) -> io::Result<u64> {
+        let (alloc, next) = (self.alloc, until.unwrap_or(self.next));
+        let front = match (until, carried.floor()) {
+            (Some(until), None) => self.front_behind(until, time)?,
+            _ => self.front_of(next, time, carried)?,
+        };
         let number = self.number.saturating_add(1);
         let mut file = open_numbered(rt, alloc, self.name, self.begun.start, number)?;
         if let Err(error) = file.write_all(front.as_slice()) {
@@ -265,7 +312,7 @@ impl<'a> Series<'a> {
         self.number = number;
         self.written = more;
         self.len = more;
-        self.next = until.unwrap_or(step);
+        self.next = next;
         self.remove_old(rt);
         Ok(more)
     }

@@ -1,5 +1,6 @@
 //! A record is written, by a thread of its own.
 
+use crate::carried::Carried;
 use crate::lives::remove_over;
 use crate::lost::{PAUSE as LOST_PAUSE, gap_between, is_tried};
 use crate::ordering::{Ordering, Ready};
@@ -26,6 +27,8 @@ const PATIENCE: u32 = 100;
 #[derive(Drop)]
 struct Pen<'a> {
     series: Series<'a>,
+    /// What the next file is to carry over.
+    carried: Carried,
     /// The first step that is not written, and when that or a new file failed last, where it is not written.
     lost: Option<(u64, Moment)>,
 }
@@ -109,9 +112,30 @@ fn append<R: Wait + Clock + Shelf>(
     step: u64,
 ) {
     if pen.lost.is_none() {
-        let written = pen.series.append(rt, bytes, step, nanoseconds_now(rt));
+        let now = nanoseconds_now(rt);
+        let written = pen
+            .series
+            .append_in_order(rt, bytes, step, now, &pen.carried);
         heed(rt, alloc, recording, pen, journal, written);
     }
+    pen.carried.note(bytes);
+}
+
+/// The same of an entry that came late, or is no step: it stands in the file that is written.
+fn append_late<R: Wait + Clock + Shelf>(
+    rt: &R,
+    alloc: Global,
+    recording: &Recording,
+    pen: &mut Pen<'_>,
+    journal: &Journal,
+    bytes: &[u8],
+    step: u64,
+) {
+    if pen.lost.is_none() {
+        let written = pen.series.append(bytes, step);
+        heed(rt, alloc, recording, pen, journal, written);
+    }
+    pen.carried.note(bytes);
 }
 
 /// Writes that steps are missing, and tells it, where the record is written.
@@ -124,6 +148,7 @@ fn append_gap<R: Wait + Clock + Shelf>(
     from: u64,
     until: u64,
 ) {
+    pen.carried.miss();
     if pen.lost.is_some() {
         return;
     }
@@ -174,7 +199,7 @@ fn take_all<R: Wait + Clock + Shelf>(
             Turn::Entry(waiting) => {
                 let step = ordering.next();
                 if let Some(bytes) = ordering.take(waiting) {
-                    append(rt, alloc, recording, pen, journal, bytes.as_slice(), step);
+                    append_late(rt, alloc, recording, pen, journal, bytes.as_slice(), step);
                 }
             }
             Turn::Nothing => return false,
@@ -195,7 +220,10 @@ fn go_on<R: Wait + Clock + Shelf>(
     next: u64,
 ) {
     let until = gap_between(first, next);
-    match pen.series.resume(rt, until, nanoseconds_now(rt)) {
+    match pen
+        .series
+        .resume(rt, until, nanoseconds_now(rt), &pen.carried)
+    {
         Ok(bytes) => {
             pen.lost = None;
             recording.written.add(bytes);
@@ -207,6 +235,11 @@ fn go_on<R: Wait + Clock + Shelf>(
         }
         Err(_) => pen.lost = Some((first, Moment::now(rt))),
     }
+}
+
+/// Whether a file that is tried may begin: where no row waits, or once that was waited for as long as for the try.
+fn may_begin(carried: &Carried, last: Moment, now: Moment) -> bool {
+    carried.is_quiet() || last.is_past(LOST_PAUSE.saturating_mul(2), now)
 }
 
 /// Writes what is gathered, or tries a new file where the record is not written and that is due. The step with this number is the next.
@@ -224,7 +257,8 @@ fn write_gathered<R: Wait + Clock + Shelf>(
             heed(rt, alloc, recording, pen, journal, written);
         }
         Some((first, last)) => {
-            if is_tried(last, Moment::now(rt)) {
+            let now = Moment::now(rt);
+            if is_tried(last, now) && may_begin(&pen.carried, last, now) {
                 go_on(rt, alloc, recording, pen, journal, first, next);
             }
         }
@@ -242,11 +276,19 @@ pub fn write_record<R: Wait + Clock + Shelf>(
     journal: &Journal,
 ) {
     remove_over(rt, alloc, &series, journal);
-    let mut pen = Pen { series, lost: None };
+    let carried = Carried::new(alloc, series.begun());
+    let mut pen = Pen {
+        series,
+        carried,
+        lost: None,
+    };
     let mut ordering = Ordering::new(alloc);
     let mut pauses = 0u32;
     for _ in rt.forever() {
         let has_ended = take_all(rt, alloc, recording, &mut pen, &mut ordering, journal);
+        if recording.lacks_lasting() {
+            pen.carried.give_up();
+        }
         let gives_up = has_ended || pauses >= PATIENCE;
         append_ready(
             rt,

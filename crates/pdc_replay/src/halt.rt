@@ -89,10 +89,15 @@ pub enum Halt {
         /// The number that was next.
         wanted: u64,
     },
-    /// The record does not begin with the beginning of a life.
+    /// The record does not begin with the beginning of a life, and its first file carries no steps over.
     NotTheFirst {
         /// The number of the first step that it has; none where it does not even say so.
         step: Option<u64>,
+    },
+    /// A step that a file carries over is not answered as it was when nothing else is known: the replay cannot begin with that file.
+    NotCarried {
+        /// The number of the step.
+        step: u64,
     },
     /// A file goes on with another life than the one before it.
     OtherLife,
@@ -230,11 +235,15 @@ pub fn print_halt<W: Write>(writer: &mut W, alloc: Global, halt: &Halt) -> io::R
         }
         Halt::NotTheFirst { step: Some(step) } => writeln!(
             writer,
-            "the record begins with step {step}: its first file is wanted to replay it"
+            "the record begins with step {step}, and its file carries nothing over: the files before it are needed to replay it"
         ),
         Halt::NotTheFirst { step: None } => {
             writeln!(writer, "the record does not say how the life began")
         }
+        Halt::NotCarried { step } => writeln!(
+            writer,
+            "step {step}, which the file carries over, is answered otherwise: the files before it are needed to replay it"
+        ),
         Halt::OtherLife => writeln!(writer, "the file is of another life than the one before it"),
         Halt::Unbegun(cause) => writeln!(writer, "the life cannot be begun: {cause}"),
         Halt::Memory => writeln!(writer, "out of memory"),

@@ -4,6 +4,9 @@
 //! The first type to look at is [`Replay`], which plays on a core; [`Player`] plays entries of either role, life after life. A core is proved to
 //! answer as the life does, so a record that is as replayed is the record of that life.
 //!
+//! A later file carries over what a core must know of the steps before it, so a replay may begin with it, and goes on with one behind steps
+//! that are not in the record.
+//!
 //! The promise to the layers above: an entry is passed only where each part of it that can be compared was equal.
 //!
 //! [`play_plain`] plays a short record on the plain program of a life, which asks each definition of the whole list of steps: a second
@@ -18,6 +21,7 @@ mod player;
 mod playing;
 mod replay;
 mod seen;
+mod unplayed;
 
 pub use agreement::{Disagreement, NAMES, Three, disagreement_of, print_presence};
 pub use begins::{Begins, Unbegun};
@@ -26,3 +30,4 @@ pub use player::Player;
 pub use playing::{MOST_STEPS, NotPlayed, play_plain};
 pub use replay::Replay;
 pub use seen::{Section, SeenRow};
+pub use unplayed::{Unplayed, print_unplayed};

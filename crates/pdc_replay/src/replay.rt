@@ -21,6 +21,20 @@ use std::alloc::{AllocError, Global};
 /// The place of SOC in a frame, in bytes.
 const SOC_PLACE: usize = 6;
 
+/// What stands at the front of a file, behind its first entry.
+#[derive(Clone, Copy, Debug, PartialEq, Eq)]
+enum Front {
+    /// Steps that bring the core to where the file begins.
+    Carried {
+        /// A tick was among them.
+        has_ticked: bool,
+    },
+    /// Steps that were played already.
+    Known,
+    /// They are over.
+    Past,
+}
+
 /// A life that is played again on a core.
 #[derive(Drop)]
 pub struct Replay<C: Begins> {
@@ -29,8 +43,11 @@ pub struct Replay<C: Begins> {
     output: Output,
     /// The number of its start.
     start: u32,
+    /// The number of the first step that is compared.
+    first: u64,
     /// The number of the next step.
     next: u64,
+    front: Front,
     /// How many frames were published.
     frames: u64,
     /// How many datagrams were not kept whole.
@@ -59,20 +76,33 @@ fn soc_of(frame: &[u8]) -> u32 {
 }
 
 impl<C: Begins> Replay<C> {
-    /// The life at its start, whose settings are this text.
+    /// The life at its start, whose settings are this text, or where a later file begins, with the step of this number. Then the file carries
+    /// over what a core must know.
     ///
     /// # Errors
     ///
     /// Why it cannot be begun so.
-    pub fn begin(alloc: Global, begun: &Begun<'_>, text: &str) -> Result<Replay<C>, Unbegun> {
+    pub fn begin(
+        alloc: Global,
+        begun: &Begun<'_>,
+        step: u64,
+        text: &str,
+    ) -> Result<Replay<C>, Unbegun> {
         let core = C::begin(alloc, begun, text)?;
         let output = core.output();
+        let front = if step == 0 {
+            Front::Past
+        } else {
+            Front::Carried { has_ticked: false }
+        };
         Ok(Replay {
             alloc,
             core,
             output,
             start: begun.start,
-            next: 0,
+            first: step,
+            next: step,
+            front,
             frames: 0,
             unkept: 0,
             row: spare_row(),
@@ -81,9 +111,9 @@ impl<C: Begins> Replay<C> {
         })
     }
 
-    /// How many steps were played.
+    /// How many steps were played and compared.
     pub fn steps(&self) -> u64 {
-        self.next
+        self.next.saturating_sub(self.first)
     }
 
     /// How many frames were published.
@@ -137,14 +167,16 @@ impl<C: Begins> Replay<C> {
     }
 
     /// A file that goes on with this life.
-    fn goes_on(&self, step: u64, begun: &Begun<'_>) -> Result<(), Halt> {
+    fn goes_on(&mut self, step: u64, begun: &Begun<'_>) -> Result<(), Halt> {
         let is_same = begun.start == self.start
             && begun.id == self.output.id.value
             && begun.rate == self.output.rate;
         if !is_same {
             return Err(Halt::OtherLife);
         }
-        self.is_next(step)
+        self.is_next(step)?;
+        self.front = Front::Known;
+        Ok(())
     }
 
     /// A datagram is answered.
@@ -336,6 +368,64 @@ impl<C: Begins> Replay<C> {
         Ok(())
     }
 
+    /// Makes a step that is carried over, and answers whether it is answered as it was. A tick closes no row, since those that it closed were
+    /// popped before the file begins.
+    fn step_carried(&mut self, what: &What<'_>) -> Result<bool, AllocError> {
+        match what {
+            What::Arrived {
+                stream,
+                outcome,
+                datagram,
+            } => Ok(self.arrive(*stream, *outcome, datagram).is_ok()),
+            What::Ticked {
+                now,
+                counts,
+                change,
+                used_up,
+                ..
+            } => {
+                let recorded = Ticked {
+                    closed: 0,
+                    change: *change,
+                    used_up: *used_up,
+                };
+                if self.tick(*now, counts, recorded).is_err() {
+                    return Ok(false);
+                }
+                if let Some(change) = change {
+                    self.keep_layout(*change)?;
+                }
+                self.front = Front::Carried { has_ticked: true };
+                Ok(true)
+            }
+            _ => Ok(false),
+        }
+    }
+
+    /// Plays an entry at the front of a file; answers whether it is one that is carried over.
+    fn play_front(&mut self, entry: &Entry<'_>) -> Result<bool, Halt> {
+        let is_carried = entry.is_carried(self.next);
+        match self.front {
+            Front::Past => return Ok(false),
+            Front::Known => {}
+            Front::Carried { .. } if is_carried => {
+                if !self.step_carried(&entry.what)? {
+                    return Err(Halt::NotCarried { step: entry.step });
+                }
+            }
+            Front::Carried { has_ticked: false } => {
+                return Err(Halt::NotTheFirst {
+                    step: Some(self.first),
+                });
+            }
+            Front::Carried { has_ticked: true } => {}
+        }
+        if !is_carried {
+            self.front = Front::Past;
+        }
+        Ok(is_carried)
+    }
+
     /// Plays an entry.
     ///
     /// # Errors
@@ -350,7 +440,12 @@ impl<C: Begins> Replay<C> {
                 from: entry.step,
                 until: *until,
             }),
-            _ => self.play_step(entry),
+            _ => {
+                if self.play_front(entry)? {
+                    return Ok(());
+                }
+                self.play_step(entry)
+            }
         }
     }
 }

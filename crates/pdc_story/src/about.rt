@@ -54,7 +54,9 @@ pub struct About {
     lived: Lived,
     /// The number of the start.
     pub start: u32,
-    /// The instant up to which all was published or given up before.
+    /// The number of the first step of the record; 0 where it has the whole life.
+    pub first: u64,
+    /// The instant up to which all was published or given up before that step.
     pub floor: u64,
 }
 
@@ -72,16 +74,17 @@ fn lived_of(alloc: Global, begun: &Begun<'_>) -> Result<Lived, SettingsFault> {
 }
 
 impl About {
-    /// Of a life that begins so.
+    /// Of a life that begins so, recorded from the step of this number on.
     ///
     /// # Errors
     ///
     /// The text of the settings is none, or there is no memory to read it.
-    pub fn of(alloc: Global, begun: &Begun<'_>) -> Result<About, Unexplained> {
+    pub fn of(alloc: Global, begun: &Begun<'_>, first: u64) -> Result<About, Unexplained> {
         match lived_of(alloc, begun) {
             Ok(lived) => Ok(About {
                 lived,
                 start: begun.start,
+                first,
                 floor: begun.floor,
             }),
             Err(fault) => Err(Unexplained::Settings(fault)),

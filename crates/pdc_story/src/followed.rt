@@ -6,7 +6,7 @@ use crate::moments::instant_near;
 use crate::sections::{Held, Sections};
 use crate::stories::Stories;
 use crate::story::{Arrived, Cell, Closed, Opened, RefusedConfig, Story, cells_of};
-use crate::wanted::Wanted;
+use crate::wanted::Selection;
 use arrayvec::ArrayVec;
 use pdc_align::{Arrival, ColumnSection};
 use pdc_cfg::{read_config, read_frame};
@@ -64,10 +64,11 @@ impl Followed {
     pub fn new(
         alloc: Global,
         begun: &Begun<'_>,
-        is_first: bool,
-        wanted: Wanted,
+        first: u64,
+        wanted: Selection,
     ) -> Result<Followed, Unexplained> {
-        let about = About::of(alloc, begun)?;
+        let about = About::of(alloc, begun, first)?;
+        let is_first = first == 0;
         let stories = Stories::new(alloc, about.streams(), wanted.instant(about.rate()))?;
         Ok(Followed {
             about,
@@ -111,6 +112,41 @@ impl Followed {
         self.is_whole = false;
         self.last = None;
         self.stories.miss(gap);
+    }
+
+    /// Whether the sections in force are known.
+    pub fn is_known(&self) -> bool {
+        self.sections.in_force().is_some()
+    }
+
+    /// A file carries over what a core must know of the steps before it: each section that was held, what was adopted, and what was taken of
+    /// instants above this one. No row waits.
+    pub fn carry(&mut self, floor: u64) {
+        self.sections = Sections::new(true);
+        self.closings.clear();
+        self.has_closings = true;
+        self.stories.carry(floor);
+    }
+
+    /// A tick that is carried over: the rows that it closed were popped.
+    pub fn tick_carried(
+        &mut self,
+        time: u64,
+        now: u64,
+        counts: &[u16; MAX_PMUS],
+        is_changed: bool,
+    ) {
+        self.ticks = self.ticks.saturating_add(1);
+        self.last = Some(Closed {
+            time,
+            now,
+            ticks: self.ticks,
+            in_force: self.sections.in_force(),
+        });
+        let adopted = self.sections.adopt(counts, is_changed);
+        if is_changed {
+            self.stories.adopt(&adopted, self.ticks);
+        }
     }
 
     /// No row waited.

@@ -4,19 +4,36 @@ use crate::about::{About, Unexplained};
 use crate::followed::{Followed, Heard};
 use crate::gap::{Gap, Hold};
 use crate::story::Story;
-use crate::wanted::Wanted;
+use crate::wanted::Selection;
 use pdc_record::{Begun, Entry, What};
 use std::alloc::{AllocError, Global};
+
+/// What stands at the front of a file, behind its first entry.
+#[derive(Clone, Copy, Debug, PartialEq, Eq)]
+enum Front {
+    /// Steps before it that a core must know.
+    Carried {
+        /// The instant up to which all was published before them.
+        floor: u64,
+        /// One of them was there.
+        is_begun: bool,
+    },
+    /// Steps that were followed already.
+    Known,
+    /// They are over.
+    Past,
+}
 
 /// Follows the entries of a record, and gives the story of each instant.
 #[derive(Drop)]
 pub struct Follower {
     alloc: Global,
-    wanted: Wanted,
+    wanted: Selection,
     life: Option<Followed>,
     gaps: Vec<Gap>,
     /// The number of the next step.
     next: u64,
+    front: Front,
     /// The number of the file that is read, from 0: whoever hands on the entries of several files sets it.
     pub file: usize,
     /// The time of the last entry.
@@ -25,13 +42,14 @@ pub struct Follower {
 
 impl Follower {
     /// Nothing was followed yet. Where one instant is wanted, it is the only one, with the one before it.
-    pub fn new(alloc: Global, wanted: Wanted) -> Follower {
+    pub fn new(alloc: Global, wanted: Selection) -> Follower {
         Follower {
             alloc,
             wanted,
             life: None,
             gaps: Vec::new(alloc),
             next: 0,
+            front: Front::Past,
             file: 0,
             end: 0,
         }
@@ -83,7 +101,7 @@ impl Follower {
 
     /// A life begins, or a record of its later steps.
     fn begin(&mut self, step: u64, begun: &Begun<'_>) -> Result<(), Unexplained> {
-        let life = Followed::new(self.alloc, begun, step == 0, self.wanted)?;
+        let life = Followed::new(self.alloc, begun, step, self.wanted)?;
         self.life = Some(life);
         self.next = 0;
         Ok(())
@@ -146,10 +164,71 @@ impl Follower {
             }
             self.miss(entry.step, entry.time, Some(self.file))?;
             self.next = entry.step;
+            self.front = self.front_at(entry.step, begun.floor);
+        } else if self.is_at_front(entry) {
+            return self.carry(entry);
         }
         self.count(entry)?;
         self.end = entry.time;
         self.follow(entry)
+    }
+
+    /// What stands at the front of a file that begins with the step of this number, with this floor.
+    fn front_at(&self, step: u64, floor: u64) -> Front {
+        match &self.life {
+            _ if step == 0 => Front::Past,
+            Some(life) if !life.is_known() => Front::Carried {
+                floor,
+                is_begun: false,
+            },
+            _ => Front::Known,
+        }
+    }
+
+    /// Whether an entry is a step that the file carries over; where one is not, they are over.
+    fn is_at_front(&mut self, entry: &Entry<'_>) -> bool {
+        if !entry.is_carried(self.next) {
+            self.front = Front::Past;
+        }
+        self.front != Front::Past
+    }
+
+    /// Follows a step that the file carries over.
+    fn carry(&mut self, entry: &Entry<'_>) -> Result<(), Unexplained> {
+        let Front::Carried { floor, is_begun } = self.front else {
+            return Ok(());
+        };
+        let Some(life) = &mut self.life else {
+            return Err(Unexplained::NoBeginning);
+        };
+        if !is_begun {
+            self.front = Front::Carried {
+                floor,
+                is_begun: true,
+            };
+            life.carry(floor);
+        }
+        match &entry.what {
+            What::Arrived {
+                stream,
+                outcome,
+                datagram,
+            } => life.hear(&Heard {
+                step: entry.step,
+                time: entry.time,
+                stream: usize::from(*stream),
+                outcome: Some(*outcome),
+                datagram,
+            })?,
+            What::Ticked {
+                now,
+                counts,
+                change,
+                ..
+            } => life.tick_carried(entry.time, *now, counts, change.is_some()),
+            _ => {}
+        }
+        Ok(())
     }
 
     /// Follows an entry.

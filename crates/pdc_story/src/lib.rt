@@ -23,4 +23,4 @@ pub use gap::{Gap, Hold};
 pub use moments::{instant_near, print_span, print_time, time_of};
 pub use sections::{Held, InForce};
 pub use story::{Adopted, Arrived, Came, Cell, Cells, Closed, Opened, RefusedConfig, Story};
-pub use wanted::{Wanted, wanted_of};
+pub use wanted::{Selection, wanted_of};

@@ -29,6 +29,8 @@ pub struct Stories {
     gap: Option<Gap>,
     /// and the highest instant of which data may be among them, once it is known.
     reach: Option<u64>,
+    /// A file behind them carries over what was taken of instants above this one.
+    carried: Option<u64>,
 }
 
 impl Stories {
@@ -52,6 +54,7 @@ impl Stories {
             last: [None; MAX_PMUS],
             gap: None,
             reach: None,
+            carried: None,
         })
     }
 
@@ -147,6 +150,10 @@ impl Stories {
                 Some(reach) if reach < instant => None,
                 _ => self.gap,
             };
+            story.is_carried = match self.carried {
+                Some(floor) => instant > floor,
+                None => false,
+            };
             *slot = Some(story);
         }
         Ok(slot.as_mut())
@@ -156,10 +163,24 @@ impl Stories {
     pub fn miss(&mut self, gap: Gap) {
         self.gap = Some(gap);
         self.reach = None;
+        self.carried = None;
         for slot in self.slots.as_mut_slice() {
             if let Some(story) = slot {
                 if story.popped.is_none() {
                     story.gap = Some(gap);
+                    story.is_carried = false;
+                }
+            }
+        }
+    }
+
+    /// A file behind the steps that are not in the record carries over what was taken of instants above this one.
+    pub fn carry(&mut self, floor: u64) {
+        self.carried = Some(floor);
+        for slot in self.slots.as_mut_slice() {
+            if let Some(story) = slot {
+                if story.popped.is_none() && story.instant > floor {
+                    story.is_carried = true;
                 }
             }
         }

@@ -132,6 +132,8 @@ pub struct Story {
     pub came: Vec<Came>,
     /// Steps that are not in the record, among which data of it may be.
     pub gap: Option<Gap>,
+    /// A file behind them carries over what was taken of it, so only what was refused may be among them.
+    pub is_carried: bool,
     /// How its row opened.
     pub opened: Option<Opened>,
     /// The tick at which it closed.
@@ -254,12 +256,21 @@ impl Story {
             instant,
             came,
             gap: None,
+            is_carried: false,
             opened: None,
             closed: None,
             popped: None,
             payload: None,
             shown: None,
         })
+    }
+
+    /// The steps that are not in the record, among which data that was taken of it may be, and the first of it.
+    pub fn row_gap(&self) -> Option<&Gap> {
+        match &self.gap {
+            Some(gap) if !self.is_carried => Some(gap),
+            _ => None,
+        }
     }
 
     /// What came of a stream.

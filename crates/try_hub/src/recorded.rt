@@ -1,5 +1,6 @@
 //! Lives of nodes 201 and 202 through a hub, each recorded to a file as a running one is: the numbers of its steps are those that the hub
-//! answers. Each record is replayed; and the events of 201 are replayed on what the record of 202 begins with.
+//! answers. Each record is replayed; and the events of 201 are replayed on what the record of 202 begins with. The life of 203 is recorded to a
+//! new file wherever one may begin, and replayed from each of them on.
 ghost use Rattle.std.specs.Prelude.{◌≡◌, length};
 
 use crate::life::{Opened, Sent, record_life};
@@ -30,6 +31,9 @@ const SECOND: [&str; 2] = [
     "aa32004a000c448527f000000000000f42400001504d5520313220202020202020202020000c000000010000000056412020202020202020202020202020000df847000100010032c29b",
     "aa02001a000c448527f000004e2000001388ec78fffe0000ce65",
 ];
+
+/// More files than a record has here.
+const MOST_FILES: u32 = 16;
 
 /// What the record of a node with this id and these settings begins with.
 fn begun_of(id: u16, text: &str) -> Begun<'_> {
@@ -84,19 +88,20 @@ fn write_life<R: Wait + Clock + Shelf>(
     Some(())
 }
 
-/// Lives as node with this id, and writes the record to files of this name. None where memory was wanted, or a file could not be made.
+/// Lives as node with this id, and writes the record to files of this name and size. None where memory was wanted, or a file could not be made.
 fn live_and_record<R: Wait + Clock + Shelf>(
     rt: &R,
     alloc: Global,
     id: u16,
     name: &str,
+    size: u64,
 ) -> Option<()> {
     let Ok(text) = SettingsText::of(id).node(alloc, &[11, 12], 4811) else {
         return None;
     };
     let settings = NodeSettings::from_toml(alloc, text.as_str()).ok()?;
     let limits = Limits {
-        size: 1 << 20,
+        size,
         keep: None,
         lives: None,
     };
@@ -213,13 +218,66 @@ fn record_of<R: Wait + Clock + Shelf + Files + AllocGlobal + Env>(
 ) -> io::Result<Vec<u8>> {
     let name = format!(in alloc; "try_hub_{process}.{id}")?;
     let path = env::temp_dir(rt)?.join(alloc, name)?;
-    if live_and_record(rt, alloc, id, path.as_str()).is_none() {
+    if live_and_record(rt, alloc, id, path.as_str(), 1 << 20).is_none() {
         return Err(io::Error::other("not lived"));
     }
     taken(rt, alloc, path.as_str())
 }
 
-/// Lives as both nodes, and replays the records.
+/// The name of the file of a record with this number.
+fn file_name(alloc: Global, name: &str, number: u32) -> io::Result<String> {
+    Ok(format!(in alloc; "{name}.000001.{number:06}")?)
+}
+
+/// What the files of a record from this number on have, one behind the other.
+fn files_from<R: Files + AllocGlobal>(
+    rt: &R,
+    alloc: Global,
+    name: &str,
+    first: u32,
+) -> io::Result<Vec<u8>> {
+    let mut bytes = Vec::new(alloc);
+    for number in first..MOST_FILES {
+        let path = file_name(alloc, name, number)?;
+        let Ok(file) = fs::read(rt, path.as_str()) else {
+            break;
+        };
+        bytes.extend_from_slice(file.as_slice())?;
+    }
+    Ok(bytes)
+}
+
+/// Replays a record from each of its files on but the first, and takes it away.
+fn tell_files<R: Files + AllocGlobal + Print>(rt: &R, alloc: Global, path: &str) -> io::Result<()> {
+    for number in 1..MOST_FILES {
+        let bytes = files_from(rt, alloc, path, number)?;
+        if bytes.is_empty() {
+            break;
+        }
+        if number > 1 {
+            let name = format!(in alloc; "node 203 from file {number} on")?;
+            tell_one(rt, alloc, name.as_str(), &bytes, &[])?;
+        }
+        fs::remove_file(rt, file_name(alloc, path, number)?.as_str())?;
+    }
+    Ok(())
+}
+
+/// Lives as node 203, with a file wherever one may begin, and replays the record from each of them on.
+fn play_files<R: Wait + Clock + Shelf + Files + AllocGlobal + Env + Print>(
+    rt: &R,
+    alloc: Global,
+    process: u32,
+) -> io::Result<()> {
+    let name = format!(in alloc; "try_hub_{process}.203")?;
+    let path = env::temp_dir(rt)?.join(alloc, name)?;
+    if live_and_record(rt, alloc, 203, path.as_str(), 1).is_none() {
+        return Err(io::Error::other("not lived"));
+    }
+    tell_files(rt, alloc, path.as_str())
+}
+
+/// Lives as both nodes, and replays the records; and as the third, whose record has a file wherever one may begin.
 pub fn play<R: Wait + Clock + Shelf + Files + AllocGlobal + Env + Print>(
     rt: &R,
     alloc: Global,
@@ -227,5 +285,6 @@ pub fn play<R: Wait + Clock + Shelf + Files + AllocGlobal + Env + Print>(
 ) -> io::Result<()> {
     let a = record_of(rt, alloc, process, 201)?;
     let b = record_of(rt, alloc, process, 202)?;
-    tell(rt, alloc, &a, &b)
+    tell(rt, alloc, &a, &b)?;
+    play_files(rt, alloc, process)
 }

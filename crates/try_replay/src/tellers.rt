@@ -1,6 +1,6 @@
 //! What is told of a record.
 
-use pdc_explain::{Delays, Follower, Story, Tally, Wanted, tell_delays, tell_story, wanted_of};
+use pdc_explain::{Delays, Follower, Selection, Story, Tally, tell_delays, tell_story, wanted_of};
 use pdc_record::{Entry, read_entry};
 use std::alloc::{AllocError, Global};
 use std::io::Write;
@@ -119,7 +119,7 @@ fn write_told(alloc: Global, record: &[u8], question: &str, out: &mut Vec<u8>) -
     match (question, wanted_of(question)) {
         ("absent", _) => write_absent(
             record,
-            &mut Follower::new(alloc, Wanted::All),
+            &mut Follower::new(alloc, Selection::All),
             &mut Tally::new(alloc),
             out,
         ),
