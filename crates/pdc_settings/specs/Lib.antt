@@ -5,4 +5,5 @@ pub mod Inputs
 pub mod Kind
 pub mod Mistake
 pub mod Network
+pub mod Said
 pub mod Settings

@@ -1,13 +1,13 @@
 //! Reading the settings of the merger.
-ghost use Rattle.std.specs.Prelude.{◌≡◌, ◌<◌, ◌≤◌, ◌∷◌, ◌&&◌, IfOk, IfErr, IfSome, IsSomeAnd, IsTrue, None, is_some, OnErr, OnOk, Some, false, length, nat_le, nat_lt, true};
+ghost use Rattle.std.specs.Prelude.{◌≡◌, ◌<◌, ◌≤◌, ◌∷◌, ◌&&◌, IfOk, IfErr, IfSome, IsTrue, None, is_some, OnErr, OnOk, Some, false, length, nat_le, nat_lt, true};
 ghost use Rattle.std.specs.List.{list_all};
-ghost use Rattle.toml.specs.Parse.{parse_document};
 ghost use Rattle.toml.specs.View.{items_view, table_view, view};
 ghost use Rattle.pdc_frame.specs.declared.limits.TheConstants.{MAX_ID};
 ghost use Rattle.pdc_life.specs.Distinct.{are_distinct};
 ghost use Rattle.pdc_life.specs.pdc_row.declared.limits.TheConstants.{MAX_PMUS};
 ghost use Rattle.pdc_settings.specs.Entries.{each_of, first_node_in, first_port_in, node_fields, node_of, node_tables_in, port_of, second_node_in, second_port_in, source_at, sources_in, two_of};
 ghost use Rattle.pdc_settings.specs.Kind.{is_merger};
+ghost use Rattle.pdc_settings.specs.Said.{SaysMerger};
 ghost use Rattle.pdc_settings.specs.Settings.{IsCommon, IsFaultOf, IsMergerFault, IsMergerSettings, are_merger_ids, has_merger_keys};
 
 use crate::common::{Common, read_common};
@@ -222,7 +222,7 @@ impl MergerSettings {
     /// `Toml` where the text is no TOML; else `Range`, with the key, where one is missing, of another type or out of its range; else
     /// `DoubledId` where two ids are the same that must differ; `NoMemory` where memory was wanted.
     pub fn from_toml(alloc: Global, text: &str) -> Result<MergerSettings, SettingsFault>
-        ensures value { IfOk result (λ settings. IsSomeAnd (parse_document text.now) (λ members. IsMergerSettings members settings)) }
+        ensures value { IfOk result (SaysMerger text.now) }
         ensures fault { IfErr result (IsFaultOf IsMergerFault text.now) }
     {
         let table = document(alloc, text)?;

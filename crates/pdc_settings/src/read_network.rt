@@ -1,13 +1,13 @@
 //! Reading where a concentrator is on the network.
-ghost use Rattle.std.specs.Prelude.{◌≡◌, ◌≤◌, IfOk, IfErr, IfSome, IsSomeAnd, None, OnErr, Some, codes, map, nat_le, option_and_then, option_map, length, string_bytes};
+ghost use Rattle.std.specs.Prelude.{◌≡◌, ◌≤◌, IfOk, IfErr, IfSome, None, OnErr, Some, codes, map, nat_le, option_and_then, option_map, length, string_bytes};
 ghost use Rattle.std.specs.declared.net.ip_addr.IpAddr.{IpAddr};
 ghost use Rattle.toml.specs.Data.{as_array, get_member};
-ghost use Rattle.toml.specs.Parse.{parse_document};
 ghost use Rattle.toml.specs.View.{items_view, table_view, view};
 ghost use Rattle.pdc_settings.specs.Entries.{each_of};
 ghost use Rattle.pdc_settings.specs.Inputs.{EachSays, IsInput, streams_in};
 ghost use Rattle.pdc_settings.specs.Network.{IsAddress, IsKeyFault, IsNetwork, IsNetworkFault, few_outputs, fault_of, metrics_port_in, outputs_of, receive_buffer_in, sessions_in, ttl_in};
 ghost use Rattle.pdc_keys.specs.Places.{IsUnread, as_place};
+ghost use Rattle.pdc_settings.specs.Said.{SaysNetwork};
 ghost use Rattle.pdc_settings.specs.Settings.{IsFaultOf};
 
 use crate::document::document;
@@ -158,7 +158,7 @@ impl Network {
     /// `Toml` where the text is no TOML; else `Range`, with the key, where the value at one is of another type or out of its range;
     /// `NoMemory` where memory was wanted.
     pub fn from_toml(alloc: Global, text: &str) -> Result<Network, SettingsFault>
-        ensures value { IfOk result (λ network. IsSomeAnd (parse_document text.now) (λ members. IsNetwork members network)) }
+        ensures value { IfOk result (SaysNetwork text.now) }
         ensures fault { IfErr result (IsFaultOf IsNetworkFault text.now) }
     {
         let table = document(alloc, text)?;

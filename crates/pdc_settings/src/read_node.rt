@@ -1,12 +1,12 @@
 //! Reading the settings of a node.
-ghost use Rattle.std.specs.Prelude.{◌≡◌, ◌≤◌, ◌∷◌, ◌&&◌, IfOk, IfErr, IfSome, IsSomeAnd, IsTrue, None, OnErr, OnOk, Some, false, true, length, map, nat_le};
+ghost use Rattle.std.specs.Prelude.{◌≡◌, ◌≤◌, ◌∷◌, ◌&&◌, IfOk, IfErr, IfSome, IsTrue, None, OnErr, OnOk, Some, false, true, length, map, nat_le};
 ghost use Rattle.std.specs.List.{list_all};
-ghost use Rattle.toml.specs.Parse.{parse_document};
 ghost use Rattle.toml.specs.View.{items_view, table_view, view};
 ghost use Rattle.pdc_life.specs.pdc_row.declared.limits.TheConstants.{MAX_PMUS};
 ghost use Rattle.pdc_life.specs.declared.pmu.Pmu.{Pmu as PmuData};
 ghost use Rattle.pdc_settings.specs.Entries.{each_of, pmu_fields, pmu_of, pmu_tables_in, pmus_in, port_of, ports_in};
 ghost use Rattle.pdc_settings.specs.Kind.{is_merger};
+ghost use Rattle.pdc_settings.specs.Said.{SaysNode};
 ghost use Rattle.pdc_settings.specs.Settings.{IsCommon, IsFaultOf, IsNodeFault, IsNodeSettings, are_node_ids, has_node_keys};
 ghost use Rattle.pdc_life.specs.Distinct.{are_distinct};
 
@@ -169,7 +169,7 @@ impl NodeSettings {
     /// `Toml` where the text is no TOML; else `Range`, with the key, where one is missing, of another type or out of its range; else
     /// `DoubledId` where two ids are the same that must differ; `NoMemory` where memory was wanted.
     pub fn from_toml(alloc: Global, text: &str) -> Result<NodeSettings, SettingsFault>
-        ensures value { IfOk result (λ settings. IsSomeAnd (parse_document text.now) (λ members. IsNodeSettings members settings)) }
+        ensures value { IfOk result (SaysNode text.now) }
         ensures fault { IfErr result (IsFaultOf IsNodeFault text.now) }
     {
         let table = document(alloc, text)?;

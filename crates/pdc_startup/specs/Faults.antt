@@ -1,5 +1,4 @@
 -- By which faults each step of a startup ends, in their order.
-use Rattle.std.specs.Prelude.{ℕ}
 use Rattle.pdc_hub.specs.declared.fault.HubFault.TheVariants.{NoMemory}
 use Rattle.pdc_startup.specs.declared.fault.LoadFault.{LoadFault}
 use Rattle.pdc_startup.specs.declared.fault.LoadFault.TheVariants.{Refused}

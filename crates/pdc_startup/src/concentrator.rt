@@ -1,6 +1,6 @@
 //! What a node and the merger have in common.
 ghost use Rattle.std.specs.Prelude.{◌≡◌, ◌≤◌, ◌<◌, IfSome};
-ghost use Rattle.pdc_startup.specs.Concentrator.{output_of};
+ghost use Rattle.pdc_startup.specs.Concentrator.{ahead_of, output_of, service_of};
 
 use pdc_frame::StreamId;
 use pdc_journal::Tags;
@@ -8,7 +8,7 @@ use pdc_row::Output;
 use pdc_settings::{MergerSettings, NodeSettings, Service};
 
 /// A node or the merger, as its settings describe it.
-#[derive(Debug, Drop)]
+#[derive(Drop)]
 pub enum Concentrator {
     /// A node.
     Node(NodeSettings),
@@ -64,7 +64,9 @@ impl Concentrator {
     }
 
     /// By how many instants data may lie above the last tick's now.
-    pub fn ahead(&self) -> u64 {
+    pub fn ahead(&self) -> u64
+        ensures { result ≡ ahead_of self.now }
+    {
         match self {
             Concentrator::Node(settings) => settings.life.timing.ahead,
             Concentrator::Merger(settings) => settings.life.timing.ahead,
@@ -72,7 +74,9 @@ impl Concentrator {
     }
 
     /// What the running program is told.
-    pub fn service_settings(&self) -> Service {
+    pub fn service_settings(&self) -> Service
+        ensures { result ≡ service_of self.now }
+    {
         match self {
             Concentrator::Node(settings) => settings.service,
             Concentrator::Merger(settings) => settings.service,

@@ -1,11 +1,14 @@
 //! What a concentrator is started with, and by which steps.
+ghost use Rattle.std.specs.Prelude.{string_bytes};
+ghost use Rattle.pdc_settings.specs.Said.{SaysNetwork};
+ghost use Rattle.pdc_startup.specs.Said.{Says};
 
 use crate::concentrator::Concentrator;
 use crate::recorded::RecordFile;
 use pdc_settings::Network;
 
 /// The files of a concentrator, by their names.
-#[derive(Clone, Copy, Debug)]
+#[derive(Clone, Copy)]
 pub struct Files<'a> {
     /// Its settings.
     pub settings: &'a str,
@@ -15,7 +18,7 @@ pub struct Files<'a> {
     pub record: Option<RecordFile<'a>>,
 }
 
-/// What a settings file says.
+/// What a settings file says: each value is the one that its text says.
 #[derive(Drop)]
 pub struct Described {
     /// Its text.
@@ -24,10 +27,12 @@ pub struct Described {
     pub concentrator: Concentrator,
     /// Where that is on the network.
     pub network: Network,
+    pub ghost said: { ∥ Says (string_bytes text) concentrator ∥₁ },
+    pub ghost network_said: { ∥ SaysNetwork (string_bytes text) network ∥₁ },
 }
 
 /// A step of a startup, in the order in which they are tried, and with which files.
-#[derive(Clone, Copy, Debug)]
+#[derive(Clone, Copy)]
 pub enum Step<'a> {
     /// The settings are read.
     ReadSettings(Files<'a>),

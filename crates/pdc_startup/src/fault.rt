@@ -5,8 +5,9 @@ ghost use Rattle.pdc_startup.specs.Status.{status_of, status_of_load};
 use pdc_hub::HubFault;
 use pdc_mark::MarkFault;
 use pdc_settings::SettingsFault;
-use std::io;
+use std::fmt::{Display, Formatter, Write};
 use std::net::SocketAddr;
+use std::{fmt, io};
 use thiserror::Error;
 
 /// Why there are no settings in a file. Each prints as its code and its name, or as `device fault`.
@@ -21,39 +22,42 @@ pub enum LoadFault {
 }
 
 /// Why a node or the merger did not run to its end. Each prints as its code and its name, or as `device fault`.
-#[derive(Debug, Drop, Error)]
+#[derive(Debug, Drop)]
 pub enum ServiceFault {
     /// There are no settings in the settings file.
-    #[error("{0}")]
     Settings(LoadFault),
     /// The mark file cannot be opened.
-    #[error("device fault")]
     MarkUnopened(io::Error),
     /// Another process has the mark file.
-    #[error("device fault")]
     MarkInUse,
     /// The mark file is refused, or no start can be stored.
-    #[error("{0}")]
     Mark(MarkFault),
     /// The port at this address cannot be opened.
-    #[error("device fault")]
     Port(SocketAddr, io::Error),
     /// The further destination with this number, counted from 1, is not known, or no socket can be opened for it.
-    #[error("device fault")]
     Output(usize, io::Error),
     /// A new file of the record cannot be made or written.
-    #[error("device fault")]
     Record(io::Error),
     /// The place where the stream with this id is asked for is not known.
-    #[error("device fault")]
     Input(u16, io::Error),
     /// The run ended by a fault.
-    #[error("{0}")]
     Run(HubFault),
     /// The run ended since the clock could not be read.
-    #[error("device fault")]
     Clock,
 }
+
+impl Display for ServiceFault {
+    fn fmt<W: Write>(&self, f: &mut Formatter<W>) -> fmt::Result {
+        match self {
+            ServiceFault::Settings(fault) => fault.fmt(f),
+            ServiceFault::Mark(fault) => fault.fmt(f),
+            ServiceFault::Run(fault) => fault.fmt(f),
+            _ => f.write_str("device fault"),
+        }
+    }
+}
+
+impl std::error::Error for ServiceFault {}
 
 /// The exit status of input that was refused.
 const REFUSED: u8 = 1;

@@ -5,6 +5,7 @@ ghost use Rattle.pdc_startup.specs.Faults.{IsOfMark, IsOfSettings};
 
 use crate::begun::Begun;
 use crate::concentrator::Concentrator;
+use crate::described::Described;
 use crate::fault::{LoadFault, ServiceFault};
 use pdc_disk::FileDisk;
 use pdc_mark::DiskMark;
@@ -21,27 +22,38 @@ pub fn read_settings_text<R: Files<File = File> + AllocGlobal>(
     file: &str,
 ) -> Result<String, LoadFault> {
     let bytes = fs::read(rt, file).map_err(LoadFault::Unread)?;
-    String::from_utf8(bytes).map_err(|_| LoadFault::Refused(SettingsFault::Toml))
+    match String::from_utf8(bytes) {
+        Ok(text) => Ok(text),
+        Err(_) => Err(LoadFault::Refused(SettingsFault::Toml)),
+    }
 }
 
-/// The node that these settings describe, and where it is on the network.
-pub fn node_of(alloc: Global, text: &str) -> Result<(Concentrator, Network), LoadFault>
-    ensures node { IfOk result (λ found. IsNode found.0) }
+/// The node that this text describes, and where it is on the network.
+pub fn node_of(alloc: Global, text: String) -> Result<Described, LoadFault>
+    ensures node { IfOk result (λ described. IsNode described.concentrator) }
     ensures faults { IfErr result IsOfSettings }
 {
-    let settings = NodeSettings::from_toml(alloc, text).map_err(LoadFault::Refused)?;
-    let network = Network::from_toml(alloc, text).map_err(LoadFault::Refused)?;
-    Ok((Concentrator::Node(settings), network))
+    let settings = NodeSettings::from_toml(alloc, text.as_str()).map_err(LoadFault::Refused)?;
+    let network = Network::from_toml(alloc, text.as_str()).map_err(LoadFault::Refused)?;
+    Ok(Described {
+        text,
+        concentrator: Concentrator::Node(settings),
+        network,
+    })
 }
 
-/// The merger that these settings describe, and where it is on the network.
-pub fn merger_of(alloc: Global, text: &str) -> Result<(Concentrator, Network), LoadFault>
-    ensures merger { IfOk result (λ found. IsMerger found.0) }
+/// The merger that this text describes, and where it is on the network.
+pub fn merger_of(alloc: Global, text: String) -> Result<Described, LoadFault>
+    ensures merger { IfOk result (λ described. IsMerger described.concentrator) }
     ensures faults { IfErr result IsOfSettings }
 {
-    let settings = MergerSettings::from_toml(alloc, text).map_err(LoadFault::Refused)?;
-    let network = Network::from_toml(alloc, text).map_err(LoadFault::Refused)?;
-    Ok((Concentrator::Merger(settings), network))
+    let settings = MergerSettings::from_toml(alloc, text.as_str()).map_err(LoadFault::Refused)?;
+    let network = Network::from_toml(alloc, text.as_str()).map_err(LoadFault::Refused)?;
+    Ok(Described {
+        text,
+        concentrator: Concentrator::Merger(settings),
+        network,
+    })
 }
 
 /// Why a mark file was not opened: one whose lock another process has is in use.

@@ -178,12 +178,7 @@ impl Machine for ThisMachine {
         files: &Files<'_>,
     ) -> Result<Described, ServiceFault> {
         let text = read_settings_text(rt, files.settings).map_err(ServiceFault::Settings)?;
-        let (concentrator, network) = node_of(rt.alloc(), &text).map_err(ServiceFault::Settings)?;
-        Ok(Described {
-            text,
-            concentrator,
-            network,
-        })
+        node_of(rt.alloc(), text).map_err(ServiceFault::Settings)
     }
 
     fn read_merger<R: HostFiles<File = File> + AllocGlobal>(
@@ -192,12 +187,7 @@ impl Machine for ThisMachine {
         files: &Files<'_>,
     ) -> Result<Described, ServiceFault> {
         let text = read_settings_text(rt, files.settings).map_err(ServiceFault::Settings)?;
-        let (concentrator, network) = merger_of(rt.alloc(), &text).map_err(ServiceFault::Settings)?;
-        Ok(Described {
-            text,
-            concentrator,
-            network,
-        })
+        merger_of(rt.alloc(), text).map_err(ServiceFault::Settings)
     }
 
     fn begin_mark<R: HostFiles<File = File>>(
@@ -259,7 +249,7 @@ impl Machine for ThisMachine {
         described: &Described,
     ) -> Result<TcpListener, ServiceFault> {
         let port = described.concentrator.service_settings().session_port;
-        open_listener(rt, &described.network, port)
+        open_listener(rt, described.network.address, port)
     }
 
     fn open_metrics<R: Net<Listener = TcpListener, Stream = TcpStream>>(

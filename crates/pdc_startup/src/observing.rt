@@ -1,5 +1,6 @@
 //! What is watched of a run.
-ghost use Rattle.std.specs.Prelude.{◌≡◌, IfSome, vec_len};
+ghost use Rattle.std.specs.Prelude.{◌≡◌, IfOk, IfSome, is_some, vec_len};
+ghost use Rattle.pdc_startup.specs.Concentrator.{is_woken, service_of};
 
 use crate::concentrator::Concentrator;
 use crate::expecting::expected_of;
@@ -55,7 +56,9 @@ fn tallies_of(alloc: Global, concentrator: &Concentrator) -> Result<Vec<Tally>, 
 }
 
 /// The tally of each further destination, in their order.
-fn outputs_of(alloc: Global, network: &Network) -> Result<Vec<OutputTally>, AllocError> {
+fn outputs_of(alloc: Global, network: &Network) -> Result<Vec<OutputTally>, AllocError>
+    ensures { IfOk result (λ outputs. vec_len outputs ≡ vec_len network.now.outputs) }
+{
     let mut outputs = Vec::new(alloc);
     for output in &network.outputs {
         outputs.push(OutputTally::new(alloc, output.as_str())?)?;
@@ -105,7 +108,9 @@ fn sources_of(concentrator: &Concentrator) -> ArrayVec<u16, MAX_SOURCES> {
 }
 
 /// How the run stands, where the counters are served.
-fn measured_of(concentrator: &Concentrator, network: &Network) -> Option<Measured> {
+fn measured_of(concentrator: &Concentrator, network: &Network) -> Option<Measured>
+    ensures { is_some result ≡ is_some network.now.metrics_port }
+{
     let output = concentrator.output();
     let tags = Tags {
         rate: output.rate,
@@ -117,8 +122,21 @@ fn measured_of(concentrator: &Concentrator, network: &Network) -> Option<Measure
     }
 }
 
+/// What is recorded of a run, if it is recorded.
+fn recording_of(alloc: Global, is_recorded: bool) -> Result<Option<Recording>, AllocError>
+    ensures { IfOk result (λ recording. is_some recording ≡ is_recorded) }
+{
+    if is_recorded {
+        Ok(Some(Recording::new(alloc)?))
+    } else {
+        Ok(None)
+    }
+}
+
 /// By what the aligner is woken, where it ticks as soon as a row is whole.
-fn wake_of(concentrator: &Concentrator) -> Option<Wake> {
+fn wake_of(concentrator: &Concentrator) -> Option<Wake>
+    ensures { is_some result ≡ is_woken (service_of concentrator.now).tick }
+{
     match concentrator.service_settings().tick {
         TickWhen::Whole => Some(Wake::new()),
         TickWhen::Period => None,
@@ -146,14 +164,25 @@ impl Observed {
         network: &Network,
         is_quiet: bool,
         is_recorded: bool,
-    ) -> Result<Observed, AllocError> {
+    ) -> Result<Observed, AllocError>
+        // Each further destination has a tally.
+        ensures outputs { IfOk result (λ observed. vec_len observed.outputs ≡ vec_len network.now.outputs) }
+        // The aligner is woken where the settings say that it ticks as soon as a row is whole.
+        ensures wake { IfOk result (λ observed. is_some observed.wake ≡ is_woken (service_of concentrator.now).tick) }
+        // How the run stands is kept where the settings say that it is served.
+        ensures measured { IfOk result (λ observed. is_some observed.measured ≡ is_some network.now.metrics_port) }
+        ensures recording { IfOk result (λ observed. is_some observed.recording ≡ is_recorded) }
+    {
         let tallies = tallies_of(alloc, concentrator)?;
         let ports = ports_of(alloc, concentrator, network, &tallies)?;
+        let outputs = outputs_of(alloc, network)?;
+        let recording = recording_of(alloc, is_recorded)?;
+        let journal = Journal::new(alloc, is_quiet)?;
         Ok(Observed {
-            journal: Journal::new(alloc, is_quiet)?,
+            journal,
             tallies,
             ports,
-            outputs: outputs_of(alloc, network)?,
+            outputs,
             signs: Signs::new(),
             last_tick: LastTick::new(),
             wake: wake_of(concentrator),
@@ -163,11 +192,7 @@ impl Observed {
             },
             measured: measured_of(concentrator, network),
             stores: Stores::new(),
-            recording: if is_recorded {
-                Some(Recording::new(alloc)?)
-            } else {
-                None
-            },
+            recording,
         })
     }
 
@@ -203,35 +228,50 @@ impl Observed {
 }
 
 /// What looks at the datagrams of a stream, whose tags are read so.
-fn watchers_of(observed: &Observed, tags: Option<Tags>) -> Watchers<'_> {
+fn watchers_of(observed: &Observed, tags: Tags) -> Watchers<'_> {
     Watchers {
         compared: match &observed.left_out {
             Some(left_out) => Some(Compared::new(left_out)),
             None => None,
         },
-        opening: match (&observed.measured, tags) {
-            (Some(measured), Some(tags)) => Some(Opening::new(measured, tags)),
-            _ => None,
+        opening: match &observed.measured {
+            Some(measured) => Some(Opening::new(measured, tags)),
+            None => None,
         },
     }
-}
-
-/// When data of the stream with this number is held back.
-fn patience_of<'a>(
-    concentrator: &Concentrator,
-    observed: &'a Observed,
-    number: usize,
-) -> Option<Patience<'a>> {
-    Some(Patience {
-        last_tick: &observed.last_tick,
-        tags: concentrator.stream_tags(number)?,
-        ahead: concentrator.ahead(),
-    })
 }
 
 /// A source of a run: it is watched, recorded where the run is, and held back where the run is late; it wakes the aligner where that is to tick
 /// as soon as a row is whole.
 pub type Watched<'a, S, R> = HoldingSource<'a, RecordedSource<'a, ObservedSource<'a, S, R>, R>, R>;
+
+/// The source of the stream with this number, watched, recorded where the run is, held back where it is late, and waking the aligner where it is
+/// to be woken; none where no such stream is taken.
+fn observe<'a, S: Source + Drop, R: Wait + Clock>(
+    rt: &'a R,
+    alloc: Global,
+    concentrator: &Concentrator,
+    observed: &'a Observed,
+    number: usize,
+    source: S,
+) -> Option<Watched<'a, S, R>> {
+    let tally = observed.tallies.get(number)?;
+    let tags = concentrator.stream_tags(number)?;
+    let hearing = Hearing::new(expected_of(concentrator, number)?);
+    let watchers = watchers_of(observed, tags);
+    let journal = &observed.journal;
+    let source = ObservedSource::new(rt, alloc, journal, tally, hearing, watchers, source);
+    let recording = observed.recording.as_ref();
+    let place = u16::try_from(number).unwrap_or(u16::MAX);
+    let source = RecordedSource::new(rt, alloc, recording, place, source);
+    let patience = Patience {
+        last_tick: &observed.last_tick,
+        tags,
+        ahead: concentrator.ahead(),
+    };
+    let wake = observed.wake.as_ref();
+    Some(HoldingSource::new(rt, Some(patience), wake, source))
+}
 
 /// The sources, each watched, recorded where the run is, held back where it is late, and waking the aligner where it is to be woken; none where
 /// there is no memory for them.
@@ -246,21 +286,10 @@ pub fn observe_all<'a, S: Source + Drop, R: Wait + Clock>(
 {
     let mut watched = Vec::new(alloc);
     for source in sources {
-        let Some(tally) = observed.tallies.get(watched.len()) else {
+        let number = watched.len();
+        let Some(source) = observe(rt, alloc, concentrator, observed, number, source) else {
             return None;
         };
-        let Some(expected) = expected_of(concentrator, watched.len()) else {
-            return None;
-        };
-        let hearing = Hearing::new(expected);
-        let watchers = watchers_of(observed, concentrator.stream_tags(watched.len()));
-        let journal = &observed.journal;
-        let source = ObservedSource::new(rt, alloc, journal, tally, hearing, watchers, source);
-        let number = u16::try_from(watched.len()).unwrap_or(u16::MAX);
-        let recording = observed.recording.as_ref();
-        let source = RecordedSource::new(rt, alloc, recording, number, source);
-        let patience = patience_of(concentrator, observed, watched.len());
-        let source = HoldingSource::new(rt, patience, observed.wake.as_ref(), source);
         if watched.push(source).is_err() {
             return None;
         }

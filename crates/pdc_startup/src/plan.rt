@@ -1,5 +1,5 @@
 //! How a concentrator runs.
-ghost use Rattle.std.specs.Prelude.{◌≤◌};
+ghost use Rattle.std.specs.Prelude.{◌≡◌, ◌≤◌};
 ghost use Rattle.pdc_publisher.specs.declared.publisher.TheConstants.{MAX_LEAD};
 ghost use Rattle.pdc_startup.specs.declared.plan.TheConstants.{MAX_LIMIT};
 
@@ -9,7 +9,7 @@ use pdc_settings::Service;
 pub const MAX_LIMIT: usize = 1024;
 
 /// How a concentrator runs, beside the settings of its life.
-#[derive(Clone, Copy, Debug)]
+#[derive(Clone, Copy)]
 pub struct Plan {
     /// The instants that are reserved ahead, 0 to 1000.
     pub lead: u16,
@@ -24,7 +24,11 @@ pub struct Plan {
 }
 
 /// How a concentrator with these settings runs.
-pub fn plan_of(service: &Service) -> Plan {
+pub fn plan_of(service: &Service) -> Plan
+    ensures lead { result.lead ≡ service.now.lead }
+    ensures every { result.layout_every ≡ service.now.layout_every }
+    ensures limit { result.limit ≡ MAX_LIMIT }
+{
     Plan {
         lead: service.lead,
         layout_every: u32::from(service.layout_every),

@@ -33,13 +33,17 @@ fn unopened(address: IpAddr, port: u16, error: io::Error) -> ServiceFault
 fn open_source<R: Net>(rt: &R, network: &Network, port: u16) -> Result<UdpSource, ServiceFault>
     ensures faults { IfErr result IsOfSources }
 {
-    let address = network.address;
-    let source = UdpSource::open_at(rt, address, port).map_err(|error| unopened(
-        address, port, error,
-    ))?;
-    source.ask_for_buffer(network.receive_buffer);
-    Ok(source)
+    match UdpSource::open_at(rt, network.address, port) {
+        Ok(source) => {
+            source.ask_for_buffer(network.receive_buffer);
+            Ok(source)
+        }
+        Err(error) => Err(unopened(network.address, port, error)),
+    }
 }
+
+/// The address of the loopback.
+const LOOPBACK: [u8; 4] = [127, 0, 0, 1];
 
 /// How many addresses of a host are looked at.
 const MOST_ADDRESSES: usize = 16;
@@ -60,33 +64,8 @@ fn addresses_of<R: Net>(rt: &R, text: &str) -> io::Result<Addresses> {
     Ok(addresses)
 }
 
-/// The address that a text `HOST:PORT` names, looked up once.
-fn address_of<R: Net>(rt: &R, text: &str) -> io::Result<SocketAddr> {
-    match text.to_socket_addrs(rt)?.next() {
-        Some(address) => Ok(address),
-        None => Err(io::Error::from(ErrorKind::NotFound)),
-    }
-}
-
-/// The address that a key of the stream's table names, where it is there.
+/// The addresses of the host that a key of the stream's table names, where it is there.
 fn asked_at<R: Net>(
-    rt: &R,
-    id: StreamId,
-    text: &Option<String>,
-) -> Result<Option<SocketAddr>, ServiceFault>
-    ensures faults { IfErr result IsOfSources }
-{
-    match text {
-        Some(text) => match address_of(rt, text.as_str()) {
-            Ok(address) => Ok(Some(address)),
-            Err(error) => Err(ServiceFault::Input(id.value, error)),
-        },
-        None => Ok(None),
-    }
-}
-
-/// The addresses of the host that a stream is asked for at over TCP, if it is.
-fn connected_to<R: Net>(
     rt: &R,
     id: StreamId,
     text: &Option<String>,
@@ -145,13 +124,16 @@ fn open_way<'a, R: Net<Listener = TcpListener, Stream = TcpStream> + Clock + Wai
     ensures faults { IfErr result IsOfSources }
 {
     let (id, input, tally) = (stream.id, stream.input, stream.tally);
-    if let Some(to) = connected_to(rt, id, &input.tcp)? {
+    if let Some(to) = asked_at(rt, id, &input.tcp)? {
         return match Connection::new(rt, alloc, journal, tally, id, to) {
             Ok(connection) => Ok(Link::over(connection)),
             Err(_) => Err(ServiceFault::Run(HubFault::NoMemory)),
         };
     }
-    let commands = asked_at(rt, id, &input.commands)?;
+    let commands = match asked_at(rt, id, &input.commands)? {
+        Some(host) => Some(host.current()),
+        None => None,
+    };
     let mut source = open_source(rt, network, stream.port)?;
     source.read_only(input.from);
     Ok(Link::at(Port::new(rt, tally, source, id, commands)))
@@ -246,12 +228,14 @@ fn open_destinations<R: Net>(
     let mut destinations = Vec::new(alloc);
     for output in &network.outputs {
         let number = destinations.len().saturating_add(1);
-        let destination = Destination::open(rt, output.as_str(), network.ttl).map_err(
-            |error| ServiceFault::Output(number, error),
-        )?;
-        destinations
-            .push(destination)
-            .map_err(|_| ServiceFault::Run(HubFault::NoMemory))?;
+        let destination = match Destination::open(rt, output.as_str(), network.ttl) {
+            Ok(destination) => destination,
+            Err(error) => return Err(ServiceFault::Output(number, error)),
+        };
+        match destinations.push(destination) {
+            Ok(()) => {}
+            Err(_) => return Err(ServiceFault::Run(HubFault::NoMemory)),
+        }
     }
     Ok(destinations)
 }
@@ -265,8 +249,10 @@ pub fn open_outputs<R: Net>(
 ) -> Result<UdpOutputs, ServiceFault>
     ensures faults { IfErr result IsOfSink }
 {
-    let loopback = IpAddr::from([127u8, 0, 0, 1]);
-    let sink = UdpSink::open(rt, port).map_err(|error| unopened(loopback, port, error))?;
+    let sink = match UdpSink::open(rt, port) {
+        Ok(sink) => sink,
+        Err(error) => return Err(unopened(IpAddr::from(LOOPBACK), port, error)),
+    };
     let destinations = open_destinations(rt, alloc, network)?;
     Ok(UdpOutputs::new(sink, destinations))
 }
@@ -276,27 +262,24 @@ fn listen<R: Net<Listener = TcpListener, Stream = TcpStream>>(
     rt: &R,
     address: IpAddr,
     port: u16,
-) -> Result<TcpListener, ServiceFault>
-    ensures faults { IfErr result IsOfListener }
-{
-    let listener = TcpListener::bind(rt, (address, port)).map_err(|error| unopened(
-        address, port, error,
-    ))?;
-    listener
-        .set_nonblocking(true)
-        .map_err(|error| unopened(address, port, error))?;
+) -> io::Result<TcpListener> {
+    let listener = TcpListener::bind(rt, (address, port))?;
+    listener.set_nonblocking(true)?;
     Ok(listener)
 }
 
-/// A listener for consumers, at this TCP port. Its `accept` does not wait.
+/// A listener at this TCP port of this address. Its `accept` does not wait.
 pub fn open_listener<R: Net<Listener = TcpListener, Stream = TcpStream>>(
     rt: &R,
-    network: &Network,
+    address: IpAddr,
     port: u16,
 ) -> Result<TcpListener, ServiceFault>
     ensures faults { IfErr result IsOfListener }
 {
-    listen(rt, network.address, port)
+    match listen(rt, address, port) {
+        Ok(listener) => Ok(listener),
+        Err(error) => Err(unopened(address, port, error)),
+    }
 }
 
 /// A listener for those who ask for the counters, at this TCP port of the loopback, where there is one. Its `accept` does not wait.
@@ -307,10 +290,7 @@ pub fn open_metrics<R: Net<Listener = TcpListener, Stream = TcpStream>>(
     ensures faults { IfErr result IsOfListener }
 {
     match port {
-        Some(port) => {
-            let loopback = IpAddr::from([127u8, 0, 0, 1]);
-            Ok(Some(listen(rt, loopback, port)?))
-        }
+        Some(port) => Ok(Some(open_listener(rt, IpAddr::from(LOOPBACK), port)?)),
         None => Ok(None),
     }
 }

@@ -13,7 +13,7 @@ use std::alloc::Global;
 use std::rt::Clock;
 
 /// Where a life is recorded.
-#[derive(Clone, Copy, Debug)]
+#[derive(Clone, Copy)]
 pub struct RecordFile<'a> {
     /// What the names of its files begin with.
     pub name: &'a str,
