@@ -1,19 +1,16 @@
 //! The value under the lock.
-ghost use Rattle.std.specs.Prelude.{◌≡◌, ◌+◌, ◌*◌, ◌-◌, ◌^◌, ◌<◌, ◌≤◌, ◌∷◌, ◌++◌, ℕ, Bool, Err, IfErr, IfOk, IfSome, List, None, Ok, OnErr, OnOk, Option, Some, [], length, true, false};
-ghost use Rattle.pdc_core.specs.Step.{ticked_of};
+ghost use Rattle.std.specs.Prelude.{◌≡◌, ◌+◌, ◌^◌, ◌<◌, ◌≤◌, ◌↔◌, Err, IfOk, IsErrOf, OnErr, OnOk, Some, [], false, true};
 ghost use Rattle.pdc_core.specs.KeptArrival.{taken_view};
-ghost use Rattle.pdc_core.specs.declared.step.CoreStep.TheVariants as step;
-ghost use Rattle.pdc_life.specs.Answer.{ToArrive, ToPop, ToTick, pop_answer, tick_answer, waiting_counts};
-ghost use Rattle.pdc_life.specs.Given.{Given};
-ghost use Rattle.pdc_life.specs.Life.{Entry, changes};
-ghost use Rattle.pdc_life.specs.Published.{layout_wire};
-ghost use Rattle.pdc_hub.specs.Counted.{HasSameAmounts, HasSameParts, configurations, configured_by, is_used_up, refused_by, taken_by};
-ghost use Rattle.pdc_hub.specs.Pops.{HasPoppedNone, HasPoppedOne, HasSameShares, IsPop};
-ghost use Rattle.pdc_hub.specs.Replay.{AreSaid, Follows, HasLogged, WasRead, since};
-ghost use Rattle.pdc_log.specs.Log.{HasAdded, HasLooked, HasTurned, InTheLife, came_in, turned_in};
-ghost use mathlib.Core.List.{IsPrefix};
+ghost use Rattle.pdc_core.specs.Step.{ticked_of};
+ghost use Rattle.pdc_hub.specs.Adding.{AddsArrival, AddsPop, AddsTick, IsLayoutBehind};
+ghost use Rattle.pdc_hub.specs.Counted.{AreAsBefore, AreSomeParts, HasSameAmounts, HasSameParts, HaveCountedOne};
+ghost use Rattle.pdc_hub.specs.Counted.{configurations, configured_by, is_used_up, refused_by, taken_by};
+ghost use Rattle.pdc_hub.specs.Opened.{AreBegun, AreOpened};
+ghost use Rattle.pdc_hub.specs.Pops.{CanBeTagged, HasAllTop, HasAllTurns, OnlyLooks, PopsNothing};
+ghost use Rattle.pdc_hub.specs.Pops.{HasPoppedNone, HasPoppedOne, HasSameShares};
+ghost use Rattle.pdc_hub.specs.Replay.{WasRead};
+ghost use Rattle.pdc_log.specs.Log.{HasLooked, came_in, turned_in};
 ghost use Rattle.pdc_memory.specs.Asking.{WasRefused};
-ghost use Rattle.pdc_frame.specs.declared.tag_limits.TheConstants.{SECONDS};
 
 use crate::fault::HubFault;
 use crate::ledgers::{ConfiguredIn, Ledgers, RefusedIn, TakenIn, TopIn, TurnsIn};
@@ -77,15 +74,13 @@ impl<C: Core + Drop, N: Naming<C::Settings>> Recorder<C, N> {
         books: Books<N>,
         log: Log,
     ) -> Result<Self, AllocError>
-        requires alike { (g : Given) × (N.given ≡ Some g) × C.stands_for base g [] × C.stands_for now g [] }
+        requires alike { AreOpened N.given (C.stands_for base) (C.stands_for now) }
         requires settings { (N.settings ≡ Some (C.settings_of base)) × (N.settings ≡ Some (C.settings_of now)) }
         requires limit { 1 ≤ limit }
         requires floor { C.popped_of now ≡ floor }
-        requires books { (books.taken.total ≡ 0) × (books.refused.total ≡ 0) × (books.configured.total ≡ 0) × (books.top.total ≡ floor) × (books.turns.total ≡ 0) }
+        requires books { AreBegun books floor }
         requires log { (log.seen.book ≡ N.book) × (log.seen.log ≡ []) }
-        ensures made { IfOk result (λ made. (made.core.base ≡ base) × (made.core.state ≡ now)
-            × (made.core.events.items ≡ []) × (made.core.limit ≡ limit)) }
-        ensures denied { OnErr result (WasRefused limit) }
+        ensures { OnErr result (WasRefused limit) }
     {
         let Books {
             taken,
@@ -122,28 +117,17 @@ impl<C: Core + Drop, N: Naming<C::Settings>> Recorder<C, N> {
         mine: &mut Shares<N>,
     ) -> Result<Numbered<Outcome>, HubFault>
         requires read { WasRead C.Settings.says C.Settings.fits N.settings stream bytes.now (taken_view datagram) }
-        requires parts { (0 < mine.old.taken.parts) × (0 < mine.old.refused.parts) × (0 < mine.old.configured.parts) }
-        // The answer is the core's.
-        ensures answer { IfOk result (λ numbered. (g : Given) (E : List Entry) → C.stands_for self.old.core.state g E →
-            numbered.answer ≡ (C.rules g E stream (taken_view datagram)).outcome) }
-        ensures stands { OnOk result (C.Settings.says (C.settings_of self.old.core.state) stream bytes.now (taken_view datagram) →
-            Follows C.rules (C.stands_for self.old.core.state) (C.stands_for self.new.core.state) (ToArrive stream bytes.now (taken_view datagram))) }
-        // Exactly this step is added.
-        ensures event { OnOk result (self.new.core.events.items ≡ since self.old.core.limit self.old.core.events.items ++ step.Arrive stream datagram ∷ []) }
-        // It is of the one life of the log, behind what the caller has seen of it.
-        ensures added { IfOk result (λ numbered. HasAdded C.rules N.given (ToArrive stream bytes.now (taken_view datagram)) mine.old.front mine.new.front numbered.step
-            (λ g E. numbered.answer ≡ (C.rules g E stream (taken_view datagram)).outcome)) }
-        // The shares rise by what is counted,
-        ensures taken { IfOk result (λ numbered. mine.new.taken.amount ≡ mine.old.taken.amount + taken_by numbered.answer) }
-        ensures refused { IfOk result (λ numbered. mine.new.refused.amount ≡ mine.old.refused.amount + refused_by numbered.answer) }
-        ensures configured { IfOk result (λ numbered. mine.new.configured.amount ≡ mine.old.configured.amount + configured_by numbered.answer) }
-        // stay below 2^64, and keep their parts.
+        requires parts { AreSomeParts mine.old }
+        // It is of the one life of the log, behind what the caller has seen of it, and is answered as that is.
+        ensures added { IfOk result (AddsArrival C.rules N.given stream bytes.now (taken_view datagram) mine.old mine.new) }
+        // The shares rise by what is counted, stay below 2^64, and keep their parts.
+        ensures counted { IfOk result (λ numbered. HaveCountedOne mine.old mine.new numbered.answer) }
         ensures most { (mine.new.taken.amount < 2 ^ 64) × (mine.new.refused.amount < 2 ^ 64) }
         ensures parts { HasSameParts mine.old mine.new }
-        ensures used_up { (result ≡ Err HubFault.CountsUsedUp → is_used_up self.old.taken.total self.old.refused.total self.old.configured.total ≡ true)
-            × (is_used_up self.old.taken.total self.old.refused.total self.old.configured.total ≡ true → result ≡ Err HubFault.CountsUsedUp) }
+        ensures used_up { IsErrOf result HubFault.CountsUsedUp
+            ↔ (is_used_up self.old.taken.total self.old.refused.total self.old.configured.total ≡ true) }
         ensures causes { OnErr result (result ≡ Err HubFault.CountsUsedUp) }
-        ensures err { OnErr result ((self.new.core.state ≡ self.old.core.state) × HasSameAmounts mine.old mine.new × (mine.new.front ≡ mine.old.front)) }
+        ensures err { OnErr result ((self.new.core.state ≡ self.old.core.state) × AreAsBefore mine.old mine.new) }
     {
         self.audit(mine);
         if self.totals.are_used_up() {
@@ -157,7 +141,8 @@ impl<C: Core + Drop, N: Naming<C::Settings>> Recorder<C, N> {
         ensures core { self.new.core ≡ self.old.core }
         ensures totals { (self.new.taken.total ≡ self.old.taken.total) × (self.new.refused.total ≡ self.old.refused.total)
             × (self.new.configured.total ≡ self.old.configured.total) }
-        ensures most { (mine.old.taken.amount ≤ self.old.taken.total) × (mine.old.refused.amount ≤ self.old.refused.total) × (self.old.taken.total < 2 ^ 64) × (self.old.refused.total < 2 ^ 64) }
+        ensures below { (mine.old.taken.amount ≤ self.old.taken.total) × (mine.old.refused.amount ≤ self.old.refused.total) }
+        ensures most { (self.old.taken.total < 2 ^ 64) × (self.old.refused.total < 2 ^ 64) }
         ensures amounts { HasSameAmounts mine.old mine.new }
         ensures parts { HasSameParts mine.old mine.new }
         ensures front { mine.new.front ≡ mine.old.front }
@@ -178,19 +163,10 @@ impl<C: Core + Drop, N: Naming<C::Settings>> Recorder<C, N> {
         mine: &mut Shares<N>,
     ) -> Numbered<Outcome>
         requires read { WasRead C.Settings.says C.Settings.fits N.settings stream bytes.now (taken_view datagram) }
-        requires parts { (0 < mine.old.taken.parts) × (0 < mine.old.refused.parts) × (0 < mine.old.configured.parts) }
+        requires parts { AreSomeParts mine.old }
         requires free { is_used_up self.old.taken.total self.old.refused.total self.old.configured.total ≡ false }
-        ensures answer { (g : Given) (E : List Entry) → C.stands_for self.old.core.state g E →
-            result.answer ≡ (C.rules g E stream (taken_view datagram)).outcome }
-        ensures stands { C.Settings.says (C.settings_of self.old.core.state) stream bytes.now (taken_view datagram) →
-            Follows C.rules (C.stands_for self.old.core.state) (C.stands_for self.new.core.state) (ToArrive stream bytes.now (taken_view datagram)) }
-        ensures event { self.new.core.events.items ≡
-            since self.old.core.limit self.old.core.events.items ++ step.Arrive stream datagram ∷ [] }
-        ensures added { HasAdded C.rules N.given (ToArrive stream bytes.now (taken_view datagram)) mine.old.front mine.new.front result.step
-            (λ g E. result.answer ≡ (C.rules g E stream (taken_view datagram)).outcome) }
-        ensures taken { mine.new.taken.amount ≡ mine.old.taken.amount + taken_by result.answer }
-        ensures refused { mine.new.refused.amount ≡ mine.old.refused.amount + refused_by result.answer }
-        ensures configured { mine.new.configured.amount ≡ mine.old.configured.amount + configured_by result.answer }
+        ensures added { AddsArrival C.rules N.given stream bytes.now (taken_view datagram) mine.old mine.new result }
+        ensures counted { HaveCountedOne mine.old mine.new result.answer }
         ensures parts { HasSameParts mine.old mine.new }
     {
         let Recorder {
@@ -219,15 +195,9 @@ impl<C: Core + Drop, N: Naming<C::Settings>> Recorder<C, N> {
         now: u64,
         counts: &[u16; MAX_PMUS],
     ) -> Numbered<Ticked>
-        requires { (pops.old.turns.parts ≡ N.turns.parts) × (0 < pops.old.turns.parts) }
-        ensures answer { (g : Given) (E : List Entry) → C.stands_for self.old.core.state g E →
-            result.answer ≡ ticked_of (changes E) (tick_answer g E now counts.now) }
-        ensures stands { Follows C.rules (C.stands_for self.old.core.state) (C.stands_for self.new.core.state) (ToTick now counts.now) }
-        ensures event { self.new.core.events.items ≡
-            since self.old.core.limit self.old.core.events.items ++ step.Tick now counts.now ∷ [] }
-        ensures turned { HasTurned C.rules N.given (ToTick now counts.now) pops.old.front pops.new.front result.step
-            (λ g E. result.answer ≡ ticked_of (changes E) (tick_answer g E now counts.now)) }
-        ensures none { HasPoppedNone pops.old pops.new × HasSameShares pops.old pops.new }
+        requires { HasAllTurns pops.old N.turns }
+        ensures turned { AddsTick ticked_of C.rules N.given now counts.now pops.old pops.new result }
+        ensures none { PopsNothing pops.old pops.new }
     {
         let Recorder { core, turns, .. } = self;
         let Pops {
@@ -245,17 +215,12 @@ impl<C: Core + Drop, N: Naming<C::Settings>> Recorder<C, N> {
     /// Pops the lowest row that closed and was not popped, which is written over the one popped before, and counts it. Whether there was one.
     /// It lies above all rows popped before, and its instant can be tagged.
     pub fn pop<M, R: Wait>(&mut self, rt: &R, pops: &mut Pops<N, M>) -> Numbered<bool>
-        requires top { (pops.old.top.parts ≡ N.top.parts) × (0 < pops.old.top.parts) }
-        requires turns { (pops.old.turns.parts ≡ N.turns.parts) × (0 < pops.old.turns.parts) }
-        ensures answer { (g : Given) (E : List Entry) → C.stands_for self.old.core.state g E →
-            IsPop result.answer pops.new.row (pop_answer E) }
-        ensures stands { Follows C.rules (C.stands_for self.old.core.state) (C.stands_for self.new.core.state) ToPop }
-        ensures event { self.new.core.events.items ≡ since self.old.core.limit self.old.core.events.items ++ step.Pop ∷ [] }
-        ensures turned { HasTurned C.rules N.given ToPop pops.old.front pops.new.front result.step
-            (λ g E. IsPop result.answer pops.new.row (pop_answer E)) }
+        requires top { HasAllTop pops.old N.top }
+        requires turns { HasAllTurns pops.old N.turns }
+        ensures turned { AddsPop C.rules N.given pops.old pops.new result }
         // A row that was popped lies above all before, and is counted; only such a row is.
         ensures row { result.answer ≡ true → HasPoppedOne pops.old pops.new }
-        ensures tagged { result.answer ≡ true → (g : Given) → N.given ≡ Some g → pops.new.row.instant < SECONDS * g.output.rate }
+        ensures tagged { result.answer ≡ true → CanBeTagged N.given pops.new.row }
         ensures none { result.answer ≡ false → HasPoppedNone pops.old pops.new }
         ensures parts { HasSameShares pops.old pops.new }
     {
@@ -290,11 +255,11 @@ impl<C: Core + Drop, N: Naming<C::Settings>> Recorder<C, N> {
 
     /// Shows all steps to who pops.
     pub fn show<M, R: Wait>(&mut self, rt: &R, pops: &mut Pops<N, M>)
-        requires { (pops.old.turns.parts ≡ N.turns.parts) × (0 < pops.old.turns.parts) }
+        requires { HasAllTurns pops.old N.turns }
         ensures core { self.new.core ≡ self.old.core }
-        ensures looked { HasLooked pops.old.front pops.new.front }
         ensures seen { pops.new.front ≡ self.old.core.log.seen.log }
-        ensures same { HasPoppedNone pops.old pops.new × HasSameShares pops.old pops.new }
+        ensures looked { HasLooked pops.old.front pops.new.front }
+        ensures none { PopsNothing pops.old pops.new }
     {
         let Recorder { core, turns, .. } = self;
         let Pops {
@@ -318,11 +283,9 @@ impl<C: Core + Drop, N: Naming<C::Settings>> Recorder<C, N> {
         soc: u32,
         out: &mut B,
     ) -> Result<(), HubFault>
-        requires { (pops.old.turns.parts ≡ N.turns.parts) × (0 < pops.old.turns.parts) }
-        ensures ok { OnOk result ((g : Given) (E : List Entry) → C.stands_for self.old.core.state g E → B.content out.new ≡ B.content out.old ++ layout_wire g E soc) }
-        ensures looked { HasLooked pops.old.front pops.new.front }
-        ensures same { HasPoppedNone pops.old pops.new × HasSameShares pops.old pops.new }
-        ensures layout { OnOk result (InTheLife C.rules N.given pops.new.front (λ g E. B.content out.new ≡ B.content out.old ++ layout_wire g E soc)) }
+        requires { HasAllTurns pops.old N.turns }
+        ensures looked { OnlyLooks pops.old pops.new }
+        ensures layout { OnOk result (IsLayoutBehind C.rules N.given pops.new.front soc (B.content out.old) (B.content out.new)) }
         ensures causes { OnErr result (result ≡ Err HubFault.NoMemory) }
         ensures err { OnErr result (B.content out.new ≡ B.content out.old) }
     {
@@ -342,13 +305,14 @@ fn count<N: Ledgers>(
     configured: &mut Book<ConfiguredIn<N>>,
     mine: &mut Shares<N>,
 )
-    requires { (0 < mine.old.taken.parts) × (0 < mine.old.refused.parts) × (0 < mine.old.configured.parts) }
+    requires { AreSomeParts mine.old }
     ensures front { mine.new.front ≡ mine.old.front }
-    ensures once { (taken.new.total + refused.new.total) + configured.new.total ≡ ((taken.old.total + refused.old.total) + configured.old.total) + 1 }
-    ensures taken { (taken.new.total ≡ taken.old.total + taken_by outcome) × (mine.new.taken.amount ≡ mine.old.taken.amount + taken_by outcome) }
-    ensures refused { (refused.new.total ≡ refused.old.total + refused_by outcome) × (mine.new.refused.amount ≡ mine.old.refused.amount + refused_by outcome) }
-    ensures configured { (configured.new.total ≡ configured.old.total + configured_by outcome)
-        × (mine.new.configured.amount ≡ mine.old.configured.amount + configured_by outcome) }
+    ensures once { (taken.new.total + refused.new.total) + configured.new.total
+        ≡ ((taken.old.total + refused.old.total) + configured.old.total) + 1 }
+    ensures taken { taken.new.total ≡ taken.old.total + taken_by outcome }
+    ensures refused { refused.new.total ≡ refused.old.total + refused_by outcome }
+    ensures configured { configured.new.total ≡ configured.old.total + configured_by outcome }
+    ensures counted { HaveCountedOne mine.old mine.new outcome }
     ensures parts { HasSameParts mine.old mine.new }
 {
     match outcome {

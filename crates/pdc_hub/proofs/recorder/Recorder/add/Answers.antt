@@ -1,6 +1,7 @@
-use Rattle.std.proofs.Common.{rules, arith, ◌∙◌, refl, sym, ap}
+use Rattle.std.proofs.Common.{arith, ◌≡◌, ◌∙◌, List, refl, subst, sym}
 use Rattle.pdc_core.specs.KeptArrival.{taken_view}
-use Rattle.pdc_life.specs.Answer.{ToArrive}
+use Rattle.pdc_life.specs.Answer.{ReadStep, ToArrive}
+use Rattle.pdc_log.specs.Log.{HasAdded}
 use Rattle.pdc_hub.specs.Replay.{WasRead}
 use Rattle.pdc_hub.proofs.Replays.{came_more, has_added, turned_same}
 use Rattle.pdc_hub.proofs.recorder.Recorder.add.Goals as goal
@@ -18,4 +19,5 @@ invariant_of-self-clause-turns_are g c =
 pub returns-clause-added : goal.returns-clause-added
 returns-clause-added g c =
     let old = c.args.self.now in
-    rw c.count.ensures.front (has_added g.C.Core.rules (WasRead g.C.Settings.Reads.says g.C.Settings.Reads.fits g.N.Naming.settings) g.N.Naming.given (g.C.Core.stands_for old.core.base) (g.C.Core.stands_for old.core.state) old.core.log.seen.log c.arrive-outcome.new.self.log.seen.log c.args.mine.now.front c.arrive-outcome.new.front old.core.events.items (ToArrive c.args.stream c.args.bytes.now (taken_view c.args.datagram)) c.step-step.result _ c.arrive-outcome.ensures.logged c.step-step.ensures (λ h E s. c.arrive-outcome.ensures.answer h E s) old.core.replays)
+    subst (λ (seen : List ReadStep). HasAdded g.C.Core.rules g.N.Naming.given (ToArrive c.args.stream c.args.bytes.now (taken_view c.args.datagram)) c.args.mine.now.front seen c.step-step.result (λ h E. c.arrive-outcome.result ≡ (g.C.Core.rules h E c.args.stream (taken_view c.args.datagram)).outcome)) (sym c.count.ensures.front)
+    (has_added g.C.Core.rules (WasRead g.C.Settings.Reads.says g.C.Settings.Reads.fits g.N.Naming.settings) g.N.Naming.given (g.C.Core.stands_for old.core.base) (g.C.Core.stands_for old.core.state) old.core.log.seen.log c.arrive-outcome.new.self.log.seen.log c.args.mine.now.front c.arrive-outcome.new.front old.core.events.items (ToArrive c.args.stream c.args.bytes.now (taken_view c.args.datagram)) c.step-step.result _ c.arrive-outcome.ensures.logged c.step-step.ensures (λ h E s. c.arrive-outcome.ensures.answer h E s) old.core.replays)

@@ -9,6 +9,6 @@ returns-clause-most g c =
     let mine = c.args.mine.now in
     let unused : is_used_up own.taken.total own.refused.total own.configured.total ≡ false = search rules in
     let free = is_free own.taken.total own.refused.total own.configured.total unused in (
-      stays_below c.add.result.answer taken_by mine.taken.amount c.add.new.mine.taken.amount own.taken.total taken_once c.audit.ensures.most.0 free.taken_free (search rules),
-      stays_below c.add.result.answer refused_by mine.refused.amount c.add.new.mine.refused.amount own.refused.total refused_once c.audit.ensures.most.1 free.refused_free (search rules),
+      stays_below c.add.result.answer taken_by mine.taken.amount c.add.new.mine.taken.amount own.taken.total taken_once c.audit.ensures.below.0 free.taken_free (omega (arith, c.add.ensures.counted.0, c.audit.ensures.amounts.0)),
+      stays_below c.add.result.answer refused_by mine.refused.amount c.add.new.mine.refused.amount own.refused.total refused_once c.audit.ensures.below.1 free.refused_free (omega (arith, c.add.ensures.counted.1, c.audit.ensures.amounts.1)),
     )
