@@ -120,71 +120,6 @@ impl<C: Core + Drop, N: Naming<C::Settings>> Replayed<C, N> {
         ensures limit { self.new.limit ≡ self.old.limit }
     {
         self.bring_up();
-        self.add_arrival(rt, front, stream, bytes, taken)
-    }
-
-    /// Ticks, and keeps the step. Where the list is full, the base is brought up first.
-    pub fn tick<R: Wait>(
-        &mut self,
-        rt: &R,
-        front: &mut Front<N>,
-        now: u64,
-        counts: &[u16; MAX_PMUS],
-    ) -> Ticked
-        ensures answer { (g : Given) (E : List Entry) → C.stands_for self.old.state g E →
-            result ≡ ticked_of (changes E) (tick_answer g E now counts.now) }
-        ensures stands { Follows C.rules (C.stands_for self.old.state) (C.stands_for self.new.state) (ToTick now counts.now) }
-        ensures logged { HasLogged (ToTick now counts.now) self.old.log.seen.log self.new.log.seen.log front.old front.new }
-        ensures counts { C.counts_of self.new.state ≡ C.counts_of self.old.state }
-        ensures popped { C.popped_of self.new.state ≡ C.popped_of self.old.state }
-        ensures event { self.new.events.items ≡ since self.old.limit self.old.events.items ++ step.Tick now counts.now ∷ [] }
-        ensures limit { self.new.limit ≡ self.old.limit }
-    {
-        self.bring_up();
-        self.add_tick(rt, front, now, counts)
-    }
-
-    /// Pops a row, which is written over this one, and keeps the step. Whether there was one; else the row stays. Where the list is full, the
-    /// base is brought up first.
-    pub fn pop_into<R: Wait>(&mut self, rt: &R, front: &mut Front<N>, row: &mut DueRow) -> bool
-        ensures answer { (g : Given) (E : List Entry) → C.stands_for self.old.state g E → IsPop result row.new (pop_answer E) }
-        ensures stands { Follows C.rules (C.stands_for self.old.state) (C.stands_for self.new.state) ToPop }
-        ensures logged { HasLogged ToPop self.old.log.seen.log self.new.log.seen.log front.old front.new }
-        ensures rises { result ≡ true → C.popped_of self.old.state < row.new.instant }
-        ensures tagged { result ≡ true → CanBeTagged N.given row.new }
-        ensures popped { (result ≡ true → C.popped_of self.new.state ≡ row.new.instant)
-            × (result ≡ false → C.popped_of self.new.state ≡ C.popped_of self.old.state) }
-        ensures none { result ≡ false → row.new ≡ row.old }
-        ensures counts { C.counts_of self.new.state ≡ C.counts_of self.old.state }
-        ensures event { self.new.events.items ≡ since self.old.limit self.old.events.items ++ step.Pop ∷ [] }
-        ensures limit { self.new.limit ≡ self.old.limit }
-    {
-        self.bring_up();
-        self.add_pop(rt, front, row)
-    }
-
-    /// Answers what arrived, and keeps the step, for which there is a place below the limit.
-    fn add_arrival<R: Wait>(
-        &mut self,
-        rt: &R,
-        front: &mut Front<N>,
-        stream: usize,
-        bytes: &[u8],
-        taken: KeptArrival,
-    ) -> Outcome
-        requires read { WasRead C.Settings.says C.Settings.fits N.settings stream bytes.now (taken_view taken) }
-        requires room { length self.old.events.items < self.old.limit }
-        ensures answer { (g : Given) (E : List Entry) → C.stands_for self.old.state g E →
-            result ≡ (C.rules g E stream (taken_view taken)).outcome }
-        ensures stands { C.Settings.says (C.settings_of self.old.state) stream bytes.now (taken_view taken) →
-            Follows C.rules (C.stands_for self.old.state) (C.stands_for self.new.state) (ToArrive stream bytes.now (taken_view taken)) }
-        ensures logged { HasLogged (ToArrive stream bytes.now (taken_view taken))
-            self.old.log.seen.log self.new.log.seen.log front.old front.new }
-        ensures counts { C.counts_of self.new.state ≡ after_answer result (C.counts_of self.old.state) }
-        ensures popped { C.popped_of self.new.state ≡ C.popped_of self.old.state }
-        ensures event { self.new.events.items ≡ self.old.events.items ++ step.Arrive stream taken ∷ [] }
-        ensures limit { self.new.limit ≡ self.old.limit }
-    {
         let Replayed {
             log,
             events,
@@ -205,24 +140,24 @@ impl<C: Core + Drop, N: Naming<C::Settings>> Replayed<C, N> {
         outcome
     }
 
-    /// Ticks, and keeps the step, for which there is a place below the limit.
-    fn add_tick<R: Wait>(
+    /// Ticks, and keeps the step. Where the list is full, the base is brought up first.
+    pub fn tick<R: Wait>(
         &mut self,
         rt: &R,
         front: &mut Front<N>,
         now: u64,
         counts: &[u16; MAX_PMUS],
     ) -> Ticked
-        requires room { length self.old.events.items < self.old.limit }
         ensures answer { (g : Given) (E : List Entry) → C.stands_for self.old.state g E →
             result ≡ ticked_of (changes E) (tick_answer g E now counts.now) }
         ensures stands { Follows C.rules (C.stands_for self.old.state) (C.stands_for self.new.state) (ToTick now counts.now) }
         ensures logged { HasLogged (ToTick now counts.now) self.old.log.seen.log self.new.log.seen.log front.old front.new }
         ensures counts { C.counts_of self.new.state ≡ C.counts_of self.old.state }
         ensures popped { C.popped_of self.new.state ≡ C.popped_of self.old.state }
-        ensures event { self.new.events.items ≡ self.old.events.items ++ step.Tick now counts.now ∷ [] }
+        ensures event { self.new.events.items ≡ since self.old.limit self.old.events.items ++ step.Tick now counts.now ∷ [] }
         ensures limit { self.new.limit ≡ self.old.limit }
     {
+        self.bring_up();
         let Replayed {
             log,
             events,
@@ -238,9 +173,9 @@ impl<C: Core + Drop, N: Naming<C::Settings>> Replayed<C, N> {
         ticked
     }
 
-    /// Pops a row into this one, and keeps the step, for which there is a place below the limit.
-    fn add_pop<R: Wait>(&mut self, rt: &R, front: &mut Front<N>, row: &mut DueRow) -> bool
-        requires room { length self.old.events.items < self.old.limit }
+    /// Pops a row, which is written over this one, and keeps the step. Whether there was one; else the row stays. Where the list is full, the
+    /// base is brought up first.
+    pub fn pop_into<R: Wait>(&mut self, rt: &R, front: &mut Front<N>, row: &mut DueRow) -> bool
         ensures answer { (g : Given) (E : List Entry) → C.stands_for self.old.state g E → IsPop result row.new (pop_answer E) }
         ensures stands { Follows C.rules (C.stands_for self.old.state) (C.stands_for self.new.state) ToPop }
         ensures logged { HasLogged ToPop self.old.log.seen.log self.new.log.seen.log front.old front.new }
@@ -250,9 +185,10 @@ impl<C: Core + Drop, N: Naming<C::Settings>> Replayed<C, N> {
             × (result ≡ false → C.popped_of self.new.state ≡ C.popped_of self.old.state) }
         ensures none { result ≡ false → row.new ≡ row.old }
         ensures counts { C.counts_of self.new.state ≡ C.counts_of self.old.state }
-        ensures event { self.new.events.items ≡ self.old.events.items ++ step.Pop ∷ [] }
+        ensures event { self.new.events.items ≡ since self.old.limit self.old.events.items ++ step.Pop ∷ [] }
         ensures limit { self.new.limit ≡ self.old.limit }
     {
+        self.bring_up();
         let Replayed {
             log,
             events,
