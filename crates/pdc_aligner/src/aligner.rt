@@ -19,7 +19,7 @@ ghost use Rattle.pdc_pipe.specs.declared.message.Message.{Message};
 ghost use Rattle.pdc_publisher.specs.Publisher.{last_in, lead_in, mark_in, output_in};
 
 use crate::clearing::tick_cleared;
-use crate::layouts::{Asked, put_layout_where, second_of};
+use crate::layouts::{LayoutRequest, put_layout_where, second_of};
 use crate::pace::Pace;
 use crate::publishing::publish_due;
 use pdc_align::Ticked;
@@ -157,7 +157,7 @@ fn turn<C: Core + Drop, N: Naming<C::Settings>, M: Mark, K: Ticker, R: Wait>(
         Err(fault) => return Err(fault),
     };
     let adopted = ticked.answer.change.is_some();
-    let asked = Asked {
+    let asked = LayoutRequest {
         step,
         soc,
         is_wanted: adopted || repeat,

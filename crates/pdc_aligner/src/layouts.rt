@@ -19,7 +19,7 @@ use std::sync::Wait;
 
 /// A layout that may be put.
 #[derive(Clone, Copy, Debug)]
-pub struct Asked {
+pub struct LayoutRequest {
     /// The number of the step that it is put after.
     pub step: u64,
     /// The second that it is dated with.
@@ -63,7 +63,7 @@ fn put_layout<C: Core + Drop, N: Naming<C::Settings>, M, K: Ticker, R: Wait>(
     pops: &mut Pops<N, M>,
     ticker: &mut K,
     writer: &mut Writer,
-    asked: Asked,
+    asked: LayoutRequest,
 ) -> Result<(), HubFault>
     requires turns { HasAllTurns pops.old N.turns }
     requires open { IsOpen writer.old }
@@ -94,7 +94,7 @@ pub fn put_layout_where<C: Core + Drop, N: Naming<C::Settings>, M, K: Ticker, R:
     pops: &mut Pops<N, M>,
     ticker: &mut K,
     writer: &mut Writer,
-    asked: Asked,
+    asked: LayoutRequest,
 ) -> Result<(), HubFault>
     requires turns { HasAllTurns pops.old N.turns }
     requires open { IsOpen writer.old }

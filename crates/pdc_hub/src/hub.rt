@@ -1,4 +1,4 @@
-//! The lock round a recorder.
+//! The lock round a core.
 ghost use Rattle.std.specs.Prelude.{◌≡◌, ◌^◌, ◌<◌, ◌≤◌, Err, IfOk, IfSome, OnErr, OnOk, Some, [], false, true};
 ghost use Rattle.pdc_core.specs.KeptArrival.{taken_view};
 ghost use Rattle.pdc_core.specs.Step.{ticked_of};
@@ -18,9 +18,9 @@ ghost use mathlib.Core.List.{IsPrefix};
 
 use crate::fault::HubFault;
 use crate::ledgers::{ConfiguredIn, RefusedIn, TakenIn, TopIn, TurnsIn};
+use crate::locked_core::LockedCore;
 use crate::naming::Naming;
 use crate::pops::Pops;
-use crate::recorder::Recorder;
 use crate::shares::{Blanks, Books, Shares};
 use pdc_core::{Core, Counts, KeptArrival, Ticked};
 use pdc_frame::Buffer;
@@ -31,11 +31,11 @@ use pdc_ports::Numbered;
 use std::alloc::{AllocError, Global};
 use std::sync::{Mutex, OnceLock, OnceToken, Wait};
 
-/// The lock round a recorder, and beside it whether no more is to be delivered. Each call but [`Hub::closed`] takes the lock once, and may
+/// The lock round a core, and beside it whether no more is to be delivered. Each call but [`Hub::closed`] takes the lock once, and may
 /// wait for it.
 #[derive(Drop)]
 pub struct Hub<C: Core + Drop, N: Naming<C::Settings>> {
-    table: Mutex<Recorder<C, N>>,
+    table: Mutex<LockedCore<C, N>>,
     closing: OnceLock<()>,
 }
 
@@ -91,10 +91,10 @@ impl<C: Core + Drop, N: Naming<C::Settings>> Hub<C, N> {
             top,
             turns,
         };
-        let recorder = Recorder::new(alloc, base, now, limit, floor, books, log)?;
+        let core = LockedCore::new(alloc, base, now, limit, floor, books, log)?;
         Ok((
             Hub {
-                table: Mutex::new(recorder),
+                table: Mutex::new(core),
                 closing: OnceLock::new(),
             },
             Shares {

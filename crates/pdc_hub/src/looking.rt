@@ -8,16 +8,16 @@ ghost use Rattle.pdc_hub.specs.Replay.{AreSaid, WasRead};
 ghost use Rattle.pdc_log.specs.Log.{InTheLife, came_in};
 ghost use mathlib.Core.List.{IsPrefix};
 
+use crate::locked_core::LockedCore;
 use crate::naming::Naming;
 use crate::pops::Pops;
-use crate::recorder::Recorder;
 use crate::shares::Shares;
 use pdc_core::{Core, Counts};
 use pdc_life::MAX_PMUS;
 use pdc_log::Front;
 use std::sync::Wait;
 
-impl<C: Core + Drop, N: Naming<C::Settings>> Recorder<C, N> {
+impl<C: Core + Drop, N: Naming<C::Settings>> LockedCore<C, N> {
     /// How arrivals were answered.
     pub fn counts(&self) -> Counts
         ensures value { result ≡ C.counts_of self.now.core.state }
@@ -47,7 +47,7 @@ impl<C: Core + Drop, N: Naming<C::Settings>> Recorder<C, N> {
     {
         self.show(rt, pops);
         let counts = self.counts();
-        let Recorder {
+        let LockedCore {
             core,
             taken,
             refused,

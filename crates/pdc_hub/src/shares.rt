@@ -1,4 +1,4 @@
-//! What a recorder counts, as tokens: they take no bytes.
+//! What a hub counts, as tokens: they take no bytes.
 ghost use Rattle.std.specs.Prelude.{◌≡◌, []};
 
 use crate::ledgers::{ConfiguredIn, Ledgers, RefusedIn, TakenIn, TopIn, TurnsIn};

@@ -1,7 +1,7 @@
 use Rattle.std.proofs.Common.{rules, arith, ◌≡◌, ◌+◌, false, ◌∙◌}
 use Rattle.pdc_hub.specs.Counted.{is_used_up, refused_by, taken_by}
 use Rattle.pdc_hub.proofs.Counted.{is_free, refused_once, stays_below, taken_once}
-use Rattle.pdc_hub.proofs.recorder.Recorder.deliver.Goals as goal
+use Rattle.pdc_hub.proofs.locked_core.LockedCore.deliver.Goals as goal
 
 pub returns-clause-most : goal.returns-clause-most
 returns-clause-most g c =

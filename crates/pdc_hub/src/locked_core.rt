@@ -30,7 +30,7 @@ use std::sync::ledger::Book;
 
 /// The value under the lock: a core beside its base and the steps since, and the books of what it counted.
 #[derive(Drop)]
-pub struct Recorder<C: Core + Drop, N: Naming<C::Settings>> {
+pub struct LockedCore<C: Core + Drop, N: Naming<C::Settings>> {
     /// The core, with its base and the steps since.
     pub core: Replayed<C, N>,
     /// The book of data that was taken.
@@ -58,8 +58,8 @@ pub struct Recorder<C: Core + Drop, N: Naming<C::Settings>> {
     ghost totals_are: { (taken.total ≡ totals.taken) × (refused.total ≡ totals.refused) × (configured.total ≡ totals.configured) },
 }
 
-impl<C: Core + Drop, N: Naming<C::Settings>> Recorder<C, N> {
-    /// A recorder over two cores that were opened alike, with no step taken since, and with its books. Its base is brought up each time
+impl<C: Core + Drop, N: Naming<C::Settings>> LockedCore<C, N> {
+    /// A core over two that were opened alike, with no step taken since, and with its books. Its base is brought up each time
     /// that so many steps are kept, for which it takes the memory here.
     ///
     /// # Errors
@@ -91,7 +91,7 @@ impl<C: Core + Drop, N: Naming<C::Settings>> Recorder<C, N> {
         } = books;
         let _counts = now.counts();
         let core = Replayed::new(alloc, base, now, limit, log)?;
-        Ok(Recorder {
+        Ok(LockedCore {
             core,
             taken,
             refused,
@@ -169,7 +169,7 @@ impl<C: Core + Drop, N: Naming<C::Settings>> Recorder<C, N> {
         ensures counted { HaveCountedOne mine.old mine.new result.answer }
         ensures parts { HasSameParts mine.old mine.new }
     {
-        let Recorder {
+        let LockedCore {
             core,
             taken,
             refused,
@@ -199,7 +199,7 @@ impl<C: Core + Drop, N: Naming<C::Settings>> Recorder<C, N> {
         ensures turned { AddsTick ticked_of C.rules N.given now counts.now pops.old pops.new result }
         ensures none { PopsNothing pops.old pops.new }
     {
-        let Recorder { core, turns, .. } = self;
+        let LockedCore { core, turns, .. } = self;
         let Pops {
             front,
             turns: own,
@@ -224,7 +224,7 @@ impl<C: Core + Drop, N: Naming<C::Settings>> Recorder<C, N> {
         ensures none { result.answer ≡ false → HasPoppedNone pops.old pops.new }
         ensures parts { HasSameShares pops.old pops.new }
     {
-        let Recorder {
+        let LockedCore {
             core,
             top,
             popped,
@@ -261,7 +261,7 @@ impl<C: Core + Drop, N: Naming<C::Settings>> Recorder<C, N> {
         ensures looked { HasLooked pops.old.front pops.new.front }
         ensures none { PopsNothing pops.old pops.new }
     {
-        let Recorder { core, turns, .. } = self;
+        let LockedCore { core, turns, .. } = self;
         let Pops {
             front,
             turns: own,

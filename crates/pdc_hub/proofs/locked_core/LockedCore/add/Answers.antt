@@ -4,7 +4,7 @@ use Rattle.pdc_life.specs.Answer.{ReadStep, ToArrive}
 use Rattle.pdc_log.specs.Log.{HasAdded}
 use Rattle.pdc_hub.specs.Replay.{WasRead}
 use Rattle.pdc_hub.proofs.Replays.{came_more, has_added, turned_same}
-use Rattle.pdc_hub.proofs.recorder.Recorder.add.Goals as goal
+use Rattle.pdc_hub.proofs.locked_core.LockedCore.add.Goals as goal
 
 pub invariant_of-self-clause-came_are : goal.invariant_of-self-clause-came_are
 invariant_of-self-clause-came_are g c =
