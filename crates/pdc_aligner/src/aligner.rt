@@ -95,7 +95,8 @@ fn cleared<C: Core + Drop, N: Naming<C::Settings>, M: Mark, K, R: Wait>(
     ensures none_falls { NoneFalls (counts_in aligner.old.publisher) (counts_in aligner.new.publisher) }
     ensures kept { OnlyCountsChange aligner.old.publisher aligner.new.publisher }
     ensures same { PopsNothing aligner.old.pops aligner.new.pops }
-    ensures others { (aligner.new.writer ≡ aligner.old.writer) × (aligner.new.ticker ≡ aligner.old.ticker) }
+    ensures others { (aligner.new.writer ≡ aligner.old.writer)
+        × (aligner.new.ticker ≡ aligner.old.ticker) }
     ensures err { OnErr result (HasLooked aligner.old.pops.front aligner.new.pops.front) }
     ensures causes { IfErr result IsOfAligner }
     ensures device { HasDeviceOf aligner.old.publisher aligner.new.publisher result }
@@ -121,7 +122,8 @@ fn turn<C: Core + Drop, N: Naming<C::Settings>, M: Mark, K: Ticker, R: Wait>(
     requires may { MayPublish N.given N.top N.turns aligner.old }
     requires laid { HasLaid C.rules N.given (output_in aligner.old.publisher) pace.now aligner.old }
     requires done { IsDone C.rules N.given aligner.old.pops.front }
-    requires before { IsBefore C.rules N.given pace.now.layout_every aligner.old.pops.front tick.adopted tick.place }
+    requires before { IsBefore C.rules N.given pace.now.layout_every aligner.old.pops.front
+        tick.adopted tick.place }
     ensures parts { HasSameShares aligner.old.pops aligner.new.pops }
     ensures on { GoesOn aligner.old.writer aligner.new.writer }
     ensures rising { PutsRising aligner.old aligner.new }
@@ -129,7 +131,8 @@ fn turn<C: Core + Drop, N: Naming<C::Settings>, M: Mark, K: Ticker, R: Wait>(
     ensures all { PutsAll (put_by aligner.old.writer) aligner.old aligner.new result }
     ensures out { OnOk result (last_in aligner.new.publisher ≡ aligner.new.pops.top.amount) }
     // What was put are the frames of the life, but for one at most where it failed; and so it stands then.
-    ensures laid { OnOk result (HasLaid C.rules N.given (output_in aligner.old.publisher) pace.now aligner.new) }
+    ensures laid { OnOk result (HasLaid C.rules N.given
+        (output_in aligner.old.publisher) pace.now aligner.new) }
     ensures but { HasLaidBut C.rules N.given (output_in aligner.old.publisher) pace.now aligner.new }
     ensures at { IfOk result (λ adopts. IsAt C.rules N.given pace.now.layout_every aligner.new.pops.front
         (adopts || tick.adopted) tick.place) }
@@ -215,15 +218,19 @@ fn turns<C: Core + Drop, N: Naming<C::Settings>, M: Mark, K: Ticker, R: Wait>(
     pace: &Pace,
 ) -> Result<u64, HubFault>
     requires may { MayPublish N.given N.top N.turns aligner.old }
-    requires front { (aligner.old.pops.front ≡ []) × InTheLife C.rules N.given aligner.old.pops.front (λ g E. E ≡ []) }
+    requires front { (aligner.old.pops.front ≡ [])
+        × InTheLife C.rules N.given aligner.old.pops.front (λ g E. E ≡ []) }
     requires begins { put_by aligner.old.writer ≡ [] }
     ensures parts { HasSameShares aligner.old.pops aligner.new.pops }
     ensures on { GoesOn aligner.old.writer aligner.new.writer }
-    ensures rising { Rises (last_in aligner.old.publisher) (instants_of (put_by aligner.new.writer)) (last_in aligner.new.publisher) }
+    ensures rising { Rises (last_in aligner.old.publisher) (instants_of (put_by aligner.new.writer))
+        (last_in aligner.new.publisher) }
     ensures all { PutsAll [] aligner.old aligner.new result }
-    ensures counted { IfOk result (λ published. published ≡ length (instants_of (put_by aligner.new.writer))) }
+    ensures counted { IfOk result (λ published.
+        published ≡ length (instants_of (put_by aligner.new.writer))) }
     ensures out { OnOk result (last_in aligner.new.publisher ≡ aligner.new.pops.top.amount) }
-    ensures laid { OnOk result (HasLaid C.rules N.given (output_in aligner.old.publisher) pace.now aligner.new) }
+    ensures laid { OnOk result (HasLaid C.rules N.given
+        (output_in aligner.old.publisher) pace.now aligner.new) }
     ensures but { HasLaidBut C.rules N.given (output_in aligner.old.publisher) pace.now aligner.new }
     ensures ticked { HasTickedAs K.gave aligner.old aligner.new result }
     ensures done { OnOk result (IsDone C.rules N.given aligner.new.pops.front) }
@@ -282,25 +289,31 @@ pub fn align<'h, C: Core + Drop, N: Naming<C::Settings>, M: Mark, K: Ticker, R: 
     aligner: &mut Aligner<N, M, K>,
     pace: &Pace,
 ) -> Aligned<'h>
-    requires top { HasAllTop aligner.old.pops N.top × (aligner.old.pops.top.amount ≡ last_in aligner.old.publisher) }
+    requires top { HasAllTop aligner.old.pops N.top
+        × (aligner.old.pops.top.amount ≡ last_in aligner.old.publisher) }
     requires turns { HasAllTurns aligner.old.pops N.turns }
-    requires front { (aligner.old.pops.front ≡ []) × InTheLife C.rules N.given aligner.old.pops.front (λ g E. E ≡ []) }
+    requires front { (aligner.old.pops.front ≡ [])
+        × InTheLife C.rules N.given aligner.old.pops.front (λ g E. E ≡ []) }
     requires rate { IsAtRate N.given (output_in aligner.old.publisher).rate }
     // The core was opened with the start, the floor and the counts that the publisher's mark stores.
     requires opened { IsOpenedWith N.given (M.stored (mark_in aligner.old.publisher)) }
     requires begins { IsOpen aligner.old.writer × (put_by aligner.old.writer ≡ []) }
     ensures same { aligner.new.writer.to ≡ aligner.old.writer.to }
     // The instants put strictly rise, lie above the last one published before, and are at most the floor that is stored then.
-    ensures rising { Rises (last_in aligner.old.publisher) (instants_of (put_by aligner.new.writer)) (floor_in aligner.new.publisher) }
+    ensures rising { Rises (last_in aligner.old.publisher) (instants_of (put_by aligner.new.writer))
+        (floor_in aligner.new.publisher) }
     // Each row that was popped was put, but one at most where it failed, which is then lost.
     ensures all { PutsAll [] aligner.old aligner.new result.outcome }
     // Where it is Ok, all that were published were put, and so many they are; and the end mark was put last.
-    ensures published { IfOk result.outcome (λ published. published ≡ length (instants_of (put_by aligner.new.writer))) }
-    ensures closed { OnOk result.outcome ((body : List Message) × (put_by aligner.new.writer ≡ body ++ End ∷ [])) }
+    ensures published { IfOk result.outcome (λ published.
+        published ≡ length (instants_of (put_by aligner.new.writer))) }
+    ensures closed { OnOk result.outcome ((body : List Message)
+        × (put_by aligner.new.writer ≡ body ++ End ∷ [])) }
     // Then the greatest instant that was popped is the last one that was published.
     ensures out { OnOk result.outcome (last_in aligner.new.publisher ≡ aligner.new.pops.top.amount) }
     // What was put are the frames of the life, in order, but for one at most where it failed.
-    ensures laid { OnOk result.outcome (HasLaid C.rules N.given (output_in aligner.old.publisher) pace.now aligner.new) }
+    ensures laid { OnOk result.outcome (HasLaid C.rules N.given
+        (output_in aligner.old.publisher) pace.now aligner.new) }
     ensures but { HasLaidBut C.rules N.given (output_in aligner.old.publisher) pace.now aligner.new }
     ensures turns { aligner.new.pops.turns.parts ≡ aligner.old.pops.turns.parts }
     // The ticks of the life are those of the ticker, with counts that never fall from those stored before to those stored then.

@@ -47,9 +47,11 @@ pub fn tick_cleared<C: Core + Drop, N: Naming<C::Settings>, M: Mark, R: Wait>(
 ) -> Result<Numbered<Ticked>, HubFault>
     requires { HasAllTurns pops.old N.turns }
     // The tick was handed the counts that the mark stores, and its answer bears its number.
-    ensures stored { IfOk result (AddsTick ticked_of C.rules N.given now (counts_in publisher.new) pops.old pops.new) }
+    ensures stored { IfOk result (AddsTick ticked_of C.rules N.given now
+        (counts_in publisher.new) pops.old pops.new) }
     // No count that waited is above them, and none that was stored.
-    ensures cleared { OnOk result (HasCleared C.rules N.given pops.old.front pops.new.front (counts_in publisher.new)) }
+    ensures cleared { OnOk result (HasCleared C.rules N.given pops.old.front pops.new.front
+        (counts_in publisher.new)) }
     ensures none_falls { NoneFalls (counts_in publisher.old) (counts_in publisher.new) }
     ensures kept { OnlyCountsChange publisher.old publisher.new }
     ensures same { PopsNothing pops.old pops.new }

@@ -45,7 +45,8 @@ fn layout_of<C: Core + Drop, N: Naming<C::Settings>, M, R: Wait>(
 ) -> Result<LayoutFrame, HubFault>
     requires { HasAllTurns pops.old N.turns }
     ensures looked { OnlyLooks pops.old pops.new }
-    ensures layout { IfOk result (λ frame. InTheLife C.rules N.given pops.new.front (λ g E. frame.bytes.items ≡ layout_wire g E soc)) }
+    ensures layout { IfOk result (λ frame. InTheLife C.rules N.given pops.new.front
+        (λ g E. frame.bytes.items ≡ layout_wire g E soc)) }
     ensures causes { IfErr result IsOfLayout }
 {
     let mut bytes = Vec::new(alloc);
@@ -69,7 +70,8 @@ fn put_layout<C: Core + Drop, N: Naming<C::Settings>, M, K: Ticker, R: Wait>(
     requires open { IsOpen writer.old }
     ensures looked { OnlyLooks pops.old pops.new }
     ensures on { GoesOn writer.old writer.new }
-    ensures layout { OnOk result (HasPutLayout C.rules N.given pops.new.front asked.soc true (put_by writer.old) (put_by writer.new)) }
+    ensures layout { OnOk result (HasPutLayout C.rules N.given pops.new.front asked.soc true
+        (put_by writer.old) (put_by writer.new)) }
     ensures err { OnErr result (put_by writer.new ≡ put_by writer.old) }
     ensures instants { instants_of (put_by writer.new) ≡ instants_of (put_by writer.old) }
     ensures causes { IfErr result IsOfLayout }

@@ -39,9 +39,11 @@ fn publish_one<M: Mark, K: Ticker, R: Wait>(
     requires tagged { row.now.instant < SECONDS * (output_in publisher.old).rate }
     requires open { IsOpen writer.old }
     ensures on { GoesOn writer.old writer.new }
-    ensures rising { RisesOn (put_by writer.old) (last_in publisher.old) (put_by writer.new) (last_in publisher.new) }
+    ensures rising { RisesOn (put_by writer.old) (last_in publisher.old) (put_by writer.new)
+        (last_in publisher.new) }
     // Where it is Ok, its frame was put, and else none was.
-    ensures frame { OnOk result (HasPutRow (output_in publisher.old) (row_view row.now) (put_by writer.old) (put_by writer.new)) }
+    ensures frame { OnOk result (HasPutRow (output_in publisher.old) (row_view row.now)
+        (put_by writer.old) (put_by writer.new)) }
     ensures none { OnErr result (put_by writer.new ≡ put_by writer.old) }
     ensures out { OnOk result (last_in publisher.new ≡ row.now.instant) }
     ensures causes { IfErr result IsOfAligner }
@@ -87,7 +89,8 @@ fn next_row<C: Core + Drop, N: Naming<C::Settings>, M: Mark, R: Wait>(
     requires rate { IsAtRate N.given (output_in publisher.now).rate }
     ensures row { result.answer ≡ true → HasPoppedOne pops.old pops.new }
     ensures turned { AddsPop C.rules N.given pops.old pops.new result }
-    ensures tagged { result.answer ≡ true → pops.new.row.instant < SECONDS * (output_in publisher.now).rate }
+    ensures tagged { result.answer ≡ true →
+        pops.new.row.instant < SECONDS * (output_in publisher.now).rate }
     ensures none { result.answer ≡ false → HasPoppedNone pops.old pops.new }
     ensures parts { HasSameShares pops.old pops.new }
     ensures ticks { ticks_of pops.new.front ≡ ticks_of pops.old.front }
@@ -116,8 +119,10 @@ pub fn publish_due<C: Core + Drop, N: Naming<C::Settings>, M: Mark, K: Ticker, R
     ensures parts { HasSameShares aligner.old.pops aligner.new.pops }
     ensures ticks { ticks_of aligner.new.pops.front ≡ ticks_of aligner.old.pops.front }
     // It is Ok only behind a pop that found none.
-    ensures done { AreDone C.rules N.given aligner.old.pops.front → OnOk result (IsDone C.rules N.given aligner.new.pops.front) }
-    ensures are_done { AreDone C.rules N.given aligner.old.pops.front → AreDone C.rules N.given aligner.new.pops.front }
+    ensures done { AreDone C.rules N.given aligner.old.pops.front →
+        OnOk result (IsDone C.rules N.given aligner.new.pops.front) }
+    ensures are_done { AreDone C.rules N.given aligner.old.pops.front →
+        AreDone C.rules N.given aligner.new.pops.front }
     ensures causes { IfErr result IsOfAligner }
     ensures device { HasDeviceOf aligner.old.publisher aligner.new.publisher result }
     ensures counts { counts_in aligner.new.publisher ≡ counts_in aligner.old.publisher }

@@ -56,7 +56,8 @@ impl<C: Core + Drop, N: Naming<C::Settings>> Hub<C, N> {
         blanks: Blanks,
     ) -> Result<(Self, Shares<N>, Pops<N, M>), AllocError>
         requires alike { AreOpened N.given (C.stands_for base) (C.stands_for now) }
-        requires settings { (N.settings ≡ Some (C.settings_of base)) × (N.settings ≡ Some (C.settings_of now)) }
+        requires settings { (N.settings ≡ Some (C.settings_of base))
+            × (N.settings ≡ Some (C.settings_of now)) }
         requires limit { 1 ≤ limit }
         requires floor { C.popped_of now ≡ floor }
         requires names { AreNamed blanks N.taken N.refused N.configured N.top N.turns }
@@ -65,7 +66,8 @@ impl<C: Core + Drop, N: Naming<C::Settings>> Hub<C, N> {
         ensures parts { IfOk result (λ made. AreAllParts made.1 N.taken N.refused N.configured
             × (made.2.top.parts ≡ N.top.parts) × (made.2.turns.parts ≡ N.turns.parts)) }
         ensures amounts { IfOk result (λ made. HaveCountedNone made.1 × (made.2.top.amount ≡ floor)) }
-        ensures none { IfOk result (λ made. (popped_by made.2 ≡ 0) × (made.1.front ≡ []) × (made.2.front ≡ [])) }
+        ensures none { IfOk result (λ made. (popped_by made.2 ≡ 0) × (made.1.front ≡ [])
+            × (made.2.front ≡ [])) }
         ensures denied { OnErr result (WasRefused limit) }
     {
         let Blanks {
@@ -121,9 +123,11 @@ impl<C: Core + Drop, N: Naming<C::Settings>> Hub<C, N> {
         datagram: KeptArrival,
         mine: &mut Shares<N>,
     ) -> Result<Numbered<Outcome>, HubFault>
-        requires read { WasRead C.Settings.says C.Settings.fits N.settings stream bytes.now (taken_view datagram) }
+        requires read { WasRead C.Settings.says C.Settings.fits N.settings stream bytes.now
+            (taken_view datagram) }
         requires parts { AreSomeParts mine.old }
-        ensures added { IfOk result (AddsArrival C.rules N.given stream bytes.now (taken_view datagram) mine.old mine.new) }
+        ensures added { IfOk result (AddsArrival C.rules N.given stream bytes.now
+            (taken_view datagram) mine.old mine.new) }
         ensures counted { IfOk result (λ numbered. HaveCountedOne mine.old mine.new numbered.answer) }
         ensures most { (mine.new.taken.amount < 2 ^ 64) × (mine.new.refused.amount < 2 ^ 64) }
         ensures parts { HasSameParts mine.old mine.new }
@@ -146,7 +150,8 @@ impl<C: Core + Drop, N: Naming<C::Settings>> Hub<C, N> {
         mark: &M,
     ) -> Numbered<Ticked>
         requires { HasAllTurns pops.old N.turns }
-        ensures turned { AddsTick ticked_of C.rules N.given now (M.stored mark.now).counts pops.old pops.new result }
+        ensures turned { AddsTick ticked_of C.rules N.given now
+            (M.stored mark.now).counts pops.old pops.new result }
         ensures none { PopsNothing pops.old pops.new }
     {
         let counts = mark.counts();
@@ -182,7 +187,8 @@ impl<C: Core + Drop, N: Naming<C::Settings>> Hub<C, N> {
     ) -> Result<(), HubFault>
         requires { HasAllTurns pops.old N.turns }
         ensures looked { OnlyLooks pops.old pops.new }
-        ensures layout { OnOk result (IsLayoutBehind C.rules N.given pops.new.front soc (B.content out.old) (B.content out.new)) }
+        ensures layout { OnOk result (IsLayoutBehind C.rules N.given pops.new.front soc
+            (B.content out.old) (B.content out.new)) }
         ensures causes { OnErr result (result ≡ Err HubFault.NoMemory) }
         ensures err { OnErr result (B.content out.new ≡ B.content out.old) }
     {

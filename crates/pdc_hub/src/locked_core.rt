@@ -55,7 +55,8 @@ pub struct LockedCore<C: Core + Drop, N: Naming<C::Settings>> {
     // Each step of the log is counted in a book.
     pub ghost came_are: { (taken.total + refused.total) + configured.total ≡ came_in core.log.seen.log },
     pub ghost turns_are: { turns.total ≡ turned_in core.log.seen.log },
-    ghost totals_are: { (taken.total ≡ totals.taken) × (refused.total ≡ totals.refused) × (configured.total ≡ totals.configured) },
+    ghost totals_are: { (taken.total ≡ totals.taken) × (refused.total ≡ totals.refused)
+        × (configured.total ≡ totals.configured) },
 }
 
 impl<C: Core + Drop, N: Naming<C::Settings>> LockedCore<C, N> {
@@ -75,7 +76,8 @@ impl<C: Core + Drop, N: Naming<C::Settings>> LockedCore<C, N> {
         log: Log,
     ) -> Result<Self, AllocError>
         requires alike { AreOpened N.given (C.stands_for base) (C.stands_for now) }
-        requires settings { (N.settings ≡ Some (C.settings_of base)) × (N.settings ≡ Some (C.settings_of now)) }
+        requires settings { (N.settings ≡ Some (C.settings_of base))
+            × (N.settings ≡ Some (C.settings_of now)) }
         requires limit { 1 ≤ limit }
         requires floor { C.popped_of now ≡ floor }
         requires books { AreBegun books floor }
@@ -116,10 +118,12 @@ impl<C: Core + Drop, N: Naming<C::Settings>> LockedCore<C, N> {
         datagram: KeptArrival,
         mine: &mut Shares<N>,
     ) -> Result<Numbered<Outcome>, HubFault>
-        requires read { WasRead C.Settings.says C.Settings.fits N.settings stream bytes.now (taken_view datagram) }
+        requires read { WasRead C.Settings.says C.Settings.fits N.settings stream bytes.now
+            (taken_view datagram) }
         requires parts { AreSomeParts mine.old }
         // It is of the one life of the log, behind what the caller has seen of it, and is answered as that is.
-        ensures added { IfOk result (AddsArrival C.rules N.given stream bytes.now (taken_view datagram) mine.old mine.new) }
+        ensures added { IfOk result (AddsArrival C.rules N.given stream bytes.now
+            (taken_view datagram) mine.old mine.new) }
         // The shares rise by what is counted, stay below 2^64, and keep their parts.
         ensures counted { IfOk result (λ numbered. HaveCountedOne mine.old mine.new numbered.answer) }
         ensures most { (mine.new.taken.amount < 2 ^ 64) × (mine.new.refused.amount < 2 ^ 64) }
@@ -127,7 +131,8 @@ impl<C: Core + Drop, N: Naming<C::Settings>> LockedCore<C, N> {
         ensures used_up { IsErrOf result HubFault.CountsUsedUp
             ↔ (is_used_up self.old.taken.total self.old.refused.total self.old.configured.total ≡ true) }
         ensures causes { OnErr result (result ≡ Err HubFault.CountsUsedUp) }
-        ensures err { OnErr result ((self.new.core.state ≡ self.old.core.state) × AreAsBefore mine.old mine.new) }
+        ensures err { OnErr result ((self.new.core.state ≡ self.old.core.state)
+            × AreAsBefore mine.old mine.new) }
     {
         self.audit(mine);
         if self.totals.are_used_up() {
@@ -139,9 +144,11 @@ impl<C: Core + Drop, N: Naming<C::Settings>> LockedCore<C, N> {
     /// The caller's shares count no more than the core did.
     fn audit(&mut self, mine: &mut Shares<N>)
         ensures core { self.new.core ≡ self.old.core }
-        ensures totals { (self.new.taken.total ≡ self.old.taken.total) × (self.new.refused.total ≡ self.old.refused.total)
+        ensures totals { (self.new.taken.total ≡ self.old.taken.total)
+            × (self.new.refused.total ≡ self.old.refused.total)
             × (self.new.configured.total ≡ self.old.configured.total) }
-        ensures below { (mine.old.taken.amount ≤ self.old.taken.total) × (mine.old.refused.amount ≤ self.old.refused.total) }
+        ensures below { (mine.old.taken.amount ≤ self.old.taken.total)
+            × (mine.old.refused.amount ≤ self.old.refused.total) }
         ensures most { (self.old.taken.total < 2 ^ 64) × (self.old.refused.total < 2 ^ 64) }
         ensures amounts { HasSameAmounts mine.old mine.new }
         ensures parts { HasSameParts mine.old mine.new }
@@ -162,10 +169,13 @@ impl<C: Core + Drop, N: Naming<C::Settings>> LockedCore<C, N> {
         datagram: KeptArrival,
         mine: &mut Shares<N>,
     ) -> Numbered<Outcome>
-        requires read { WasRead C.Settings.says C.Settings.fits N.settings stream bytes.now (taken_view datagram) }
+        requires read { WasRead C.Settings.says C.Settings.fits N.settings stream bytes.now
+            (taken_view datagram) }
         requires parts { AreSomeParts mine.old }
-        requires free { is_used_up self.old.taken.total self.old.refused.total self.old.configured.total ≡ false }
-        ensures added { AddsArrival C.rules N.given stream bytes.now (taken_view datagram) mine.old mine.new result }
+        requires free { is_used_up self.old.taken.total self.old.refused.total
+            self.old.configured.total ≡ false }
+        ensures added { AddsArrival C.rules N.given stream bytes.now
+            (taken_view datagram) mine.old mine.new result }
         ensures counted { HaveCountedOne mine.old mine.new result.answer }
         ensures parts { HasSameParts mine.old mine.new }
     {
@@ -285,7 +295,8 @@ impl<C: Core + Drop, N: Naming<C::Settings>> LockedCore<C, N> {
     ) -> Result<(), HubFault>
         requires { HasAllTurns pops.old N.turns }
         ensures looked { OnlyLooks pops.old pops.new }
-        ensures layout { OnOk result (IsLayoutBehind C.rules N.given pops.new.front soc (B.content out.old) (B.content out.new)) }
+        ensures layout { OnOk result (IsLayoutBehind C.rules N.given pops.new.front soc
+            (B.content out.old) (B.content out.new)) }
         ensures causes { OnErr result (result ≡ Err HubFault.NoMemory) }
         ensures err { OnErr result (B.content out.new ≡ B.content out.old) }
     {

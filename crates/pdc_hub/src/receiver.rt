@@ -33,7 +33,8 @@ pub struct Received<'h, N: Ledgers> {
     pub fault: Option<HubFault>,
     /// What shows that the hub was closed, where it ended at the close.
     pub closed: Option<OnceToken<'h, ()>>,
-    pub ghost one_part: { (shares.taken.parts ≡ 1) × (shares.refused.parts ≡ 1) × (shares.configured.parts ≡ 1) },
+    pub ghost one_part: { (shares.taken.parts ≡ 1) × (shares.refused.parts ≡ 1)
+        × (shares.configured.parts ≡ 1) },
     pub ghost same: { (shares.taken.amount ≡ taken) × (shares.refused.amount ≡ refused) },
 }
 
@@ -52,7 +53,8 @@ fn hand_in<C: Core + Drop, N: Naming<C::Settings>, R: Wait>(
     ensures answer { IfOk result (λ numbered. WasBrought C.rules N.given stream bytes.now
         shares.old.front shares.new.front numbered.answer) }
     ensures counted { IfOk result (λ numbered. HaveCountedOne shares.old shares.new numbered.answer) }
-    ensures most { IfOk result (λ _. (shares.new.taken.amount < 2 ^ 64) × (shares.new.refused.amount < 2 ^ 64)) }
+    ensures most { IfOk result (λ _. (shares.new.taken.amount < 2 ^ 64)
+        × (shares.new.refused.amount < 2 ^ 64)) }
     ensures parts { HasSameParts shares.old shares.new }
     ensures causes { IfErr result IsOfDelivery }
     ensures err { OnErr result (AreAsBefore shares.old shares.new) }
@@ -78,11 +80,13 @@ pub fn receive<'h, C: Core + Drop, N: Naming<C::Settings>, S: Source, R: Wait>(
     requires amounts { HaveCountedNone place.shares }
     // Each datagram that the source gave was delivered whole, for this stream, and answered, but for one by which it ended; it ended by the
     // last thing that it heard, and by a pause only where it hands back what shows that the hub was closed.
-    ensures received { HasReceived (HasTold S.told source.old source.new) (AreBrought C.rules N.given place.stream result.shares.front)
+    ensures received { HasReceived (HasTold S.told source.old source.new)
+        (AreBrought C.rules N.given place.stream result.shares.front)
         (IsSome result.closed) result.taken result.refused result.shares.configured.amount result.fault }
     ensures closed { IfSome result.closed (λ token. token.of ≡ closing_of intake.now.hub.now) }
     ensures causes { IfSome result.fault IsOfReceiver }
-    ensures fault { result.fault ≡ Some HubFault.SourceFault → HasRisen (S.failures_of source.old) (S.failures_of source.new) }
+    ensures fault { result.fault ≡ Some HubFault.SourceFault →
+        HasRisen (S.failures_of source.old) (S.failures_of source.new) }
 {
     let Place {
         stream,
@@ -157,7 +161,8 @@ fn handed_back<'h, N: Ledgers>(
 ) -> Received<'h, N>
     requires parts { AreOnePart shares }
     requires amounts { (shares.taken.amount ≡ taken) × (shares.refused.amount ≡ refused) }
-    ensures { (result.fault ≡ fault) × (result.taken ≡ taken) × (result.refused ≡ refused) × (result.closed ≡ closed.entry)
+    ensures { (result.fault ≡ fault) × (result.taken ≡ taken) × (result.refused ≡ refused)
+        × (result.closed ≡ closed.entry)
         × (result.shares ≡ shares) }
 {
     Received {

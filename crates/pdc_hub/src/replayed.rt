@@ -52,7 +52,8 @@ impl<C: Core + Drop, N: Naming<C::Settings>> Replayed<C, N> {
     /// [`AllocError`] where a request for that room was refused.
     pub fn new(alloc: Global, base: C, state: C, limit: usize, log: Log) -> Result<Self, AllocError>
         requires alike { AreOpened N.given (C.stands_for base) (C.stands_for state) }
-        requires settings { (N.settings ≡ Some (C.settings_of base)) × (N.settings ≡ Some (C.settings_of state)) }
+        requires settings { (N.settings ≡ Some (C.settings_of base))
+            × (N.settings ≡ Some (C.settings_of state)) }
         requires limit { 1 ≤ limit }
         requires log { (log.seen.book ≡ N.book) × (log.seen.log ≡ []) }
         ensures made { IfOk result (λ made. (made.base ≡ base) × (made.state ≡ state)
@@ -107,16 +108,19 @@ impl<C: Core + Drop, N: Naming<C::Settings>> Replayed<C, N> {
         bytes: &[u8],
         taken: KeptArrival,
     ) -> Outcome
-        requires read { WasRead C.Settings.says C.Settings.fits N.settings stream bytes.now (taken_view taken) }
+        requires read { WasRead C.Settings.says C.Settings.fits N.settings stream bytes.now
+            (taken_view taken) }
         ensures answer { (g : Given) (E : List Entry) → C.stands_for self.old.state g E →
             result ≡ (C.rules g E stream (taken_view taken)).outcome }
-        ensures stands { C.Settings.says (C.settings_of self.old.state) stream bytes.now (taken_view taken) →
+        ensures stands { C.Settings.says (C.settings_of self.old.state) stream bytes.now
+            (taken_view taken) →
             Follows C.rules (C.stands_for self.old.state) (C.stands_for self.new.state) (ToArrive stream bytes.now (taken_view taken)) }
         ensures logged { HasLogged (ToArrive stream bytes.now (taken_view taken))
             self.old.log.seen.log self.new.log.seen.log front.old front.new }
         ensures counts { C.counts_of self.new.state ≡ after_answer result (C.counts_of self.old.state) }
         ensures popped { C.popped_of self.new.state ≡ C.popped_of self.old.state }
-        ensures event { self.new.events.items ≡ since self.old.limit self.old.events.items ++ step.Arrive stream taken ∷ [] }
+        ensures event { self.new.events.items ≡ since self.old.limit self.old.events.items ++
+            step.Arrive stream taken ∷ [] }
         ensures limit { self.new.limit ≡ self.old.limit }
     {
         self.bring_up();
@@ -150,11 +154,14 @@ impl<C: Core + Drop, N: Naming<C::Settings>> Replayed<C, N> {
     ) -> Ticked
         ensures answer { (g : Given) (E : List Entry) → C.stands_for self.old.state g E →
             result ≡ ticked_of (changes E) (tick_answer g E now counts.now) }
-        ensures stands { Follows C.rules (C.stands_for self.old.state) (C.stands_for self.new.state) (ToTick now counts.now) }
-        ensures logged { HasLogged (ToTick now counts.now) self.old.log.seen.log self.new.log.seen.log front.old front.new }
+        ensures stands { Follows C.rules (C.stands_for self.old.state) (C.stands_for self.new.state)
+            (ToTick now counts.now) }
+        ensures logged { HasLogged (ToTick now counts.now) self.old.log.seen.log
+            self.new.log.seen.log front.old front.new }
         ensures counts { C.counts_of self.new.state ≡ C.counts_of self.old.state }
         ensures popped { C.popped_of self.new.state ≡ C.popped_of self.old.state }
-        ensures event { self.new.events.items ≡ since self.old.limit self.old.events.items ++ step.Tick now counts.now ∷ [] }
+        ensures event { self.new.events.items ≡ since self.old.limit self.old.events.items ++
+            step.Tick now counts.now ∷ [] }
         ensures limit { self.new.limit ≡ self.old.limit }
     {
         self.bring_up();
@@ -176,8 +183,10 @@ impl<C: Core + Drop, N: Naming<C::Settings>> Replayed<C, N> {
     /// Pops a row, which is written over this one, and keeps the step. Whether there was one; else the row stays. Where the list is full, the
     /// base is brought up first.
     pub fn pop_into<R: Wait>(&mut self, rt: &R, front: &mut Front<N>, row: &mut DueRow) -> bool
-        ensures answer { (g : Given) (E : List Entry) → C.stands_for self.old.state g E → IsPop result row.new (pop_answer E) }
-        ensures stands { Follows C.rules (C.stands_for self.old.state) (C.stands_for self.new.state) ToPop }
+        ensures answer { (g : Given) (E : List Entry) → C.stands_for self.old.state g E →
+            IsPop result row.new (pop_answer E) }
+        ensures stands { Follows C.rules (C.stands_for self.old.state)
+            (C.stands_for self.new.state) ToPop }
         ensures logged { HasLogged ToPop self.old.log.seen.log self.new.log.seen.log front.old front.new }
         ensures rises { result ≡ true → C.popped_of self.old.state < row.new.instant }
         ensures tagged { result ≡ true → CanBeTagged N.given row.new }
@@ -185,7 +194,8 @@ impl<C: Core + Drop, N: Naming<C::Settings>> Replayed<C, N> {
             × (result ≡ false → C.popped_of self.new.state ≡ C.popped_of self.old.state) }
         ensures none { result ≡ false → row.new ≡ row.old }
         ensures counts { C.counts_of self.new.state ≡ C.counts_of self.old.state }
-        ensures event { self.new.events.items ≡ since self.old.limit self.old.events.items ++ step.Pop ∷ [] }
+        ensures event { self.new.events.items ≡ since self.old.limit self.old.events.items ++
+            step.Pop ∷ [] }
         ensures limit { self.new.limit ≡ self.old.limit }
     {
         self.bring_up();
@@ -207,7 +217,8 @@ fn answered<C: Core>(state: &mut C, stream: usize, taken: &KeptArrival) -> Outco
     requires { C.Settings.fits (C.settings_of state.old) stream (taken_view taken.now) ≡ true }
     ensures answer { (g : Given) (E : List Entry) → C.stands_for state.old g E →
         result ≡ (C.rules g E stream (taken_view taken.now)).outcome }
-    ensures stands { (bytes : List ℕ) → C.Settings.says (C.settings_of state.old) stream bytes (taken_view taken.now) →
+    ensures stands { (bytes : List ℕ) → C.Settings.says (C.settings_of state.old) stream bytes
+        (taken_view taken.now) →
         Follows C.rules (C.stands_for state.old) (C.stands_for state.new) (ToArrive stream bytes (taken_view taken.now)) }
     ensures counts { C.counts_of state.new ≡ after_answer result (C.counts_of state.old) }
     ensures popped { C.popped_of state.new ≡ C.popped_of state.old }

@@ -53,7 +53,8 @@ pub struct Blanks {
 impl Blanks {
     /// Ledgers of which nothing is counted, those of the three totals with so many parts, the others with one; and a log with no step.
     pub fn new(parts: u64) -> Blanks
-        ensures parts { (result.taken.parts ≡ parts) × (result.refused.parts ≡ parts) × (result.configured.parts ≡ parts)
+        ensures parts { (result.taken.parts ≡ parts) × (result.refused.parts ≡ parts)
+            × (result.configured.parts ≡ parts)
             × (result.top.parts ≡ 1) × (result.turns.parts ≡ 1) }
         ensures log { result.log.seen.log ≡ [] }
     {
