@@ -23,7 +23,7 @@ mod totals;
 
 pub use fault::HubFault;
 pub use hub::Hub;
-pub use intake::{Intake, Place};
+pub use intake::{Inlet, Intake};
 pub use ledgers::{ConfiguredIn, Ledgers, RefusedIn, TakenIn, TopIn};
 pub use naming::Naming;
 pub use pops::Pops;

@@ -9,7 +9,7 @@ ghost use Rattle.pdc_ports.specs.Heard.{HasTold, Heard};
 
 use crate::fault::HubFault;
 use crate::hub::Hub;
-use crate::intake::{Intake, Place};
+use crate::intake::{Inlet, Intake};
 use crate::ledgers::Ledgers;
 use crate::naming::Naming;
 use crate::shares::Shares;
@@ -72,27 +72,27 @@ pub fn receive<'h, C: Core + Drop, N: Naming<C::Settings>, S: Source, R: Wait>(
     alloc: Global,
     intake: &Intake<'h, C, N>,
     source: &mut S,
-    place: Place<N>,
+    inlet: Inlet<N>,
 ) -> Received<'h, N>
     requires settings { N.settings ≡ Some intake.now.settings.now }
-    requires stream { place.stream < C.Settings.streams intake.now.settings.now }
-    requires parts { AreOnePart place.shares }
-    requires amounts { HaveCountedNone place.shares }
+    requires stream { inlet.stream < C.Settings.streams intake.now.settings.now }
+    requires parts { AreOnePart inlet.shares }
+    requires amounts { HaveCountedNone inlet.shares }
     // Each datagram that the source gave was delivered whole, for this stream, and answered, but for one by which it ended; it ended by the
     // last thing that it heard, and by a pause only where it hands back what shows that the hub was closed.
     ensures received { HasReceived (HasTold S.told source.old source.new)
-        (AreBrought C.rules N.given place.stream result.shares.front)
+        (AreBrought C.rules N.given inlet.stream result.shares.front)
         (IsSome result.closed) result.taken result.refused result.shares.configured.amount result.fault }
     ensures closed { IfSome result.closed (λ token. token.of ≡ closing_of intake.now.hub.now) }
     ensures causes { IfSome result.fault IsOfReceiver }
     ensures fault { result.fault ≡ Some HubFault.SourceFault →
         HasRisen (S.failures_of source.old) (S.failures_of source.new) }
 {
-    let Place {
+    let Inlet {
         stream,
         buffer,
         shares,
-    } = place;
+    } = inlet;
     let hub = intake.hub;
     let mut shares = shares;
     let mut buffer = buffer;

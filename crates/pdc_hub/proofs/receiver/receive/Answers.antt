@@ -14,15 +14,15 @@ loop-init g c = (
   search rules,
   search rules,
   search rules,
-  receiving_begins g.S.Source.told c.args.source.now g.C.Core.rules g.N.Naming.given c.args.place.stream c.args.place.shares.front c.args.place.shares.configured.amount (search rules),
+  receiving_begins g.S.Source.told c.args.source.now g.C.Core.rules g.N.Naming.given c.args.inlet.stream c.args.inlet.shares.front c.args.inlet.shares.configured.amount (search rules),
 )
 
 pub loop-preserved-in-Ok : goal.loop-preserved-in-Ok
 loop-preserved-in-Ok g c =
     let bytes : List ℕ = take c.in-Datagram.len c.next-in-loop.new.buffer in
     let same : c.deref.result.now ≡ c.next-in-loop.new.buffer = left_whole _ _ _ _ c.deref.ensures.value (search rules) in
-    let answer : WasBrought g.C.Core.rules g.N.Naming.given c.args.place.stream bytes c.loop.shares.front c.hand_in.new.shares.front c.in-Ok.answer.answer =
-    subst (λ (buffer : List ℕ). WasBrought g.C.Core.rules g.N.Naming.given c.args.place.stream (take c.in-Datagram.len buffer) c.loop.shares.front c.hand_in.new.shares.front c.in-Ok.answer.answer) same c.in-Ok.ensures.answer in
+    let answer : WasBrought g.C.Core.rules g.N.Naming.given c.args.inlet.stream bytes c.loop.shares.front c.hand_in.new.shares.front c.in-Ok.answer.answer =
+    subst (λ (buffer : List ℕ). WasBrought g.C.Core.rules g.N.Naming.given c.args.inlet.stream (take c.in-Datagram.len buffer) c.loop.shares.front c.hand_in.new.shares.front c.in-Ok.answer.answer) same c.in-Ok.ensures.answer in
     let counted = c.in-Ok.ensures.counted in
     let more_taken : c.hand_in.new.shares.taken.amount ≡ c.loop.shares.taken.amount + taken_by c.in-Ok.answer.answer = counted.0 in
     let more_refused : c.hand_in.new.shares.refused.amount ≡ c.loop.shares.refused.amount + refused_by c.in-Ok.answer.answer = counted.1 in
@@ -36,7 +36,7 @@ loop-preserved-in-Ok g c =
       search rules,
       search rules,
       search rules,
-      receiving_on g.S.Source.told c.args.source.now c.loop.source c.tell_whole.new.source g.C.Core.rules g.N.Naming.given c.args.place.stream c.loop.shares.front c.hand_in.new.shares.front c.loop.taken c.loop.refused c.loop.shares.configured.amount c.match-answer.taken c.match-answer.refused c.hand_in.new.shares.configured.amount bytes c.in-Ok.answer.answer
+      receiving_on g.S.Source.told c.args.source.now c.loop.source c.tell_whole.new.source g.C.Core.rules g.N.Naming.given c.args.inlet.stream c.loop.shares.front c.hand_in.new.shares.front c.loop.taken c.loop.refused c.loop.shares.configured.amount c.match-answer.taken c.match-answer.refused c.hand_in.new.shares.configured.amount bytes c.in-Ok.answer.answer
           c.loop.invariant.6 told answer taken refused configured,
     )
 
