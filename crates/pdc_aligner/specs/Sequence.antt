@@ -20,6 +20,10 @@ abbrev pub Rises : ℕ → List ℕ → ℕ → Type 0
 Rises low [] high = low ≤ high
 Rises low (n ∷ ns) high = (low < n) × Rises n ns high
 
+-- Instants of what was put before that rose to the first number are, with those put since, ones that rise to the last.
+abbrev pub RisesOn : (before : List Message) (first : ℕ) (after : List Message) (last : ℕ) → Type 0
+RisesOn before first after last = (low : ℕ) → Rises low (instants_of before) first → Rises low (instants_of after) last
+
 -- From the first number of rows on so many more were popped, each of which was put as a data frame behind what was there, but one at most,
 -- which was lost; where it is Ok, none was.
 pub record HasPutAll {A : Type 0} (first popped : ℕ) (before put : List Message) (result : Result A HubFault) : Type 0 where

@@ -10,6 +10,10 @@ use Rattle.pdc_log.specs.Log.{HasLooked, InTheLife}
 abbrev pub HasGiven : {K : Type 0} (gave : K → List ℕ → Type 0) (old new : K) → List ℕ → Type 0
 HasGiven gave old new nows = (before : List ℕ) → gave old before → gave new (before ++ nows)
 
+-- Between them it gave none.
+abbrev pub GivesNone : {K : Type 0} (gave : K → List ℕ → Type 0) (old new : K) → Type 0
+GivesNone gave old new = (nows : List ℕ) → gave old nows → gave new nows
+
 -- no count of these is greater than the other one of its column
 abbrev pub NoneFalls : (before after : List ℕ) → Type 0
 NoneFalls before after = (column : ℕ) → slice_index before column ≤ slice_index after column

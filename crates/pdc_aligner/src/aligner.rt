@@ -1,25 +1,25 @@
 //! The aligner: ticks, pops, publishes, and puts on the channel. It alone owns the mark.
-ghost use Rattle.std.specs.Prelude.{◌≡◌, ◌<◌, ◌≤◌, ◌||◌, ◌++◌, ◌∷◌, ℕ, Bool, IfErr, IfOk, List, OnErr, OnOk, [], false, length, true};
-ghost use Rattle.pdc_aligner.specs.Device.{HasDevice, IsOfAligner, standing_of};
+ghost use Rattle.std.specs.Prelude.{◌≡◌, ◌||◌, ◌++◌, ◌∷◌, IfErr, IfOk, List, OnErr, OnOk, [], length};
+ghost use Rattle.pdc_align.specs.Align.{ticked_of};
+ghost use Rattle.pdc_aligner.specs.Aligning.{HasLaid, HasLaidBut, HasTickedAs, MayPublish, PutsAll, PutsRising, TicksOnce};
+ghost use Rattle.pdc_aligner.specs.Device.{IsOfAligner};
+ghost use Rattle.pdc_aligner.specs.Keeping.{HasDeviceOf, KeepsOutput, OnlyCountsChange, counts_in, floor_in};
+ghost use Rattle.pdc_aligner.specs.Laid.{AreDone, IsAt, IsBefore, IsDone};
 ghost use Rattle.pdc_aligner.specs.Opened.{IsOpenedWith};
 ghost use Rattle.pdc_aligner.specs.Rate.{IsAtRate};
-ghost use Rattle.pdc_aligner.specs.Sequence.{HasPutAll, Rises, instants_of};
-ghost use Rattle.pdc_aligner.specs.Laid.{AreDone, IsAt, IsBefore, IsDone, IsLaid, IsLaidBut};
-ghost use Rattle.pdc_pipe.specs.Sequence.{bytes_of};
-ghost use Rattle.pdc_aligner.specs.Turns.{HasGiven, HasTicked, HasTickedOnce, NoneFalls};
+ghost use Rattle.pdc_aligner.specs.Sequence.{Rises, instants_of};
+ghost use Rattle.pdc_aligner.specs.Turns.{GivesNone, NoneFalls};
+ghost use Rattle.pdc_hub.specs.Adding.{AddsTick};
 ghost use Rattle.pdc_hub.specs.Closing.{closing_of};
-ghost use Rattle.pdc_hub.specs.Pops.{HasPoppedNone, HasSameShares, popped_by};
-ghost use Rattle.pdc_align.specs.Align.{ticked_of};
-ghost use Rattle.pdc_life.specs.Answer.{ToTick, tick_answer};
-ghost use Rattle.pdc_life.specs.Life.{changes};
-ghost use Rattle.pdc_log.specs.Log.{HasLooked, HasTurned, InTheLife, ticks_of};
+ghost use Rattle.pdc_hub.specs.Pops.{HasAllTop, HasAllTurns, HasSameShares, PopsNothing};
+ghost use Rattle.pdc_log.specs.Log.{HasLooked, InTheLife};
 ghost use Rattle.pdc_pipe.specs.Writing.{GoesOn, IsOpen, put_by};
-ghost use Rattle.pdc_pipe.specs.declared.message.Message.{Message};
 ghost use Rattle.pdc_pipe.specs.declared.message.Message.TheVariants.{End};
+ghost use Rattle.pdc_pipe.specs.declared.message.Message.{Message};
 ghost use Rattle.pdc_publisher.specs.Publisher.{last_in, lead_in, mark_in, output_in};
 
 use crate::clearing::tick_cleared;
-use crate::layouts::{Asked, put_layout_where, second_of};
+use crate::layouts::{LayoutRequest, put_layout_where, second_of};
 use crate::pace::Pace;
 use crate::publishing::publish_due;
 use pdc_align::Ticked;
@@ -63,7 +63,7 @@ fn note_tick<K: Ticker>(
     counts: &[u16; MAX_PMUS],
     ticked: &Numbered<Ticked>,
 )
-    ensures { (nows : List ℕ) → K.gave ticker.old nows → K.gave ticker.new nows }
+    ensures { GivesNone K.gave ticker.old ticker.new }
 {
     let Ticked {
         closed,
@@ -89,19 +89,17 @@ fn cleared<C: Core + Drop, N: Naming<C::Settings>, M: Mark, K, R: Wait>(
     aligner: &mut Aligner<N, M, K>,
     now: u64,
 ) -> Result<Numbered<Ticked>, HubFault>
-    requires { (aligner.old.pops.turns.parts ≡ N.turns.parts) × (0 < aligner.old.pops.turns.parts) }
-    ensures stored { IfOk result (λ numbered. HasTurned C.rules N.given (ToTick now (M.stored (mark_in aligner.new.publisher)).counts) aligner.old.pops.front aligner.new.pops.front numbered.step
-        (λ g E. numbered.answer ≡ ticked_of (changes E) (tick_answer g E now (M.stored (mark_in aligner.new.publisher)).counts))) }
-    ensures same { HasPoppedNone aligner.old.pops aligner.new.pops × HasSameShares aligner.old.pops aligner.new.pops }
-    ensures others { (aligner.new.writer ≡ aligner.old.writer) × (aligner.new.ticker ≡ aligner.old.ticker) }
+    requires { HasAllTurns aligner.old.pops N.turns }
+    ensures stored { IfOk result (AddsTick ticked_of C.rules N.given now (counts_in aligner.new.publisher)
+        aligner.old.pops aligner.new.pops) }
+    ensures none_falls { NoneFalls (counts_in aligner.old.publisher) (counts_in aligner.new.publisher) }
+    ensures kept { OnlyCountsChange aligner.old.publisher aligner.new.publisher }
+    ensures same { PopsNothing aligner.old.pops aligner.new.pops }
+    ensures others { (aligner.new.writer ≡ aligner.old.writer)
+        × (aligner.new.ticker ≡ aligner.old.ticker) }
     ensures err { OnErr result (HasLooked aligner.old.pops.front aligner.new.pops.front) }
-    ensures none_falls { NoneFalls (M.stored (mark_in aligner.old.publisher)).counts (M.stored (mark_in aligner.new.publisher)).counts }
-    ensures floor { (M.stored (mark_in aligner.new.publisher)).floor ≡ (M.stored (mark_in aligner.old.publisher)).floor }
-    ensures last { last_in aligner.new.publisher ≡ last_in aligner.old.publisher }
-    ensures output { output_in aligner.new.publisher ≡ output_in aligner.old.publisher }
-    ensures lead { lead_in aligner.new.publisher ≡ lead_in aligner.old.publisher }
     ensures causes { IfErr result IsOfAligner }
-    ensures device { HasDevice (standing_of aligner.old.publisher) (standing_of aligner.new.publisher) result }
+    ensures device { HasDeviceOf aligner.old.publisher aligner.new.publisher result }
 {
     let Aligner {
         publisher,
@@ -121,37 +119,33 @@ fn turn<C: Core + Drop, N: Naming<C::Settings>, M: Mark, K: Ticker, R: Wait>(
     pace: &Pace,
     tick: Tick,
 ) -> Result<bool, HubFault>
-    requires top { (aligner.old.pops.top.parts ≡ N.top.parts) × (0 < aligner.old.pops.top.parts) × (last_in aligner.old.publisher ≡ aligner.old.pops.top.amount) }
-    requires turns { (aligner.old.pops.turns.parts ≡ N.turns.parts) × (0 < aligner.old.pops.turns.parts) }
-    requires laid { IsLaid C.rules N.given (output_in aligner.old.publisher) pace.now.rate pace.now.layout_every aligner.old.pops.front (put_by aligner.old.writer) }
+    requires may { MayPublish N.given N.top N.turns aligner.old }
+    requires laid { HasLaid C.rules N.given (output_in aligner.old.publisher) pace.now aligner.old }
     requires done { IsDone C.rules N.given aligner.old.pops.front }
-    requires before { IsBefore C.rules N.given pace.now.layout_every aligner.old.pops.front tick.adopted tick.place }
-    requires rate { IsAtRate N.given (output_in aligner.old.publisher).rate }
-    requires open { IsOpen aligner.old.writer }
-    requires stored { last_in aligner.old.publisher ≤ (M.stored (mark_in aligner.old.publisher)).floor }
-    ensures top { (aligner.new.pops.top.parts ≡ aligner.old.pops.top.parts) × (last_in aligner.new.publisher ≤ aligner.new.pops.top.amount) }
+    requires before { IsBefore C.rules N.given pace.now.layout_every aligner.old.pops.front
+        tick.adopted tick.place }
+    ensures parts { HasSameShares aligner.old.pops aligner.new.pops }
     ensures on { GoesOn aligner.old.writer aligner.new.writer }
-    ensures stored { last_in aligner.new.publisher ≤ (M.stored (mark_in aligner.new.publisher)).floor }
-    ensures rising { (low : ℕ) → Rises low (instants_of (put_by aligner.old.writer)) (last_in aligner.old.publisher) → Rises low (instants_of (put_by aligner.new.writer)) (last_in aligner.new.publisher) }
+    ensures rising { PutsRising aligner.old aligner.new }
+    // Each row that was popped was put, but the last one where it failed.
+    ensures all { PutsAll (put_by aligner.old.writer) aligner.old aligner.new result }
+    ensures out { OnOk result (last_in aligner.new.publisher ≡ aligner.new.pops.top.amount) }
     // What was put are the frames of the life, but for one at most where it failed; and so it stands then.
-    ensures laid { OnOk result (IsLaid C.rules N.given (output_in aligner.old.publisher) pace.now.rate pace.now.layout_every aligner.new.pops.front (put_by aligner.new.writer)) }
-    ensures but { IsLaidBut C.rules N.given (output_in aligner.old.publisher) pace.now.rate pace.now.layout_every aligner.new.pops.front (put_by aligner.new.writer) }
-    ensures at { IfOk result (λ adopts. IsAt C.rules N.given pace.now.layout_every aligner.new.pops.front (adopts || tick.adopted) tick.place) }
-    ensures turns { aligner.new.pops.turns.parts ≡ aligner.old.pops.turns.parts }
-    // One tick was added, with the counts that the mark stores.
+    ensures laid { OnOk result (HasLaid C.rules N.given
+        (output_in aligner.old.publisher) pace.now aligner.new) }
+    ensures but { HasLaidBut C.rules N.given (output_in aligner.old.publisher) pace.now aligner.new }
+    ensures at { IfOk result (λ adopts. IsAt C.rules N.given pace.now.layout_every aligner.new.pops.front
+        (adopts || tick.adopted) tick.place) }
     // All rows that were due were popped before.
     ensures done { OnOk result (IsDone C.rules N.given aligner.new.pops.front) }
     ensures are_done { AreDone C.rules N.given aligner.new.pops.front }
-    ensures ticked { HasTickedOnce tick.now (M.stored (mark_in aligner.new.publisher)).counts (ticks_of aligner.old.pops.front) (ticks_of aligner.new.pops.front) result }
-    // Each row that was popped was put, but the last one where it failed.
-    ensures all { HasPutAll (popped_by aligner.old.pops) (popped_by aligner.new.pops) (put_by aligner.old.writer) (put_by aligner.new.writer) result }
-    ensures none_falls { NoneFalls (M.stored (mark_in aligner.old.publisher)).counts (M.stored (mark_in aligner.new.publisher)).counts }
-    ensures output { output_in aligner.new.publisher ≡ output_in aligner.old.publisher }
-    ensures lead { lead_in aligner.new.publisher ≡ lead_in aligner.old.publisher }
-    ensures out { OnOk result (last_in aligner.new.publisher ≡ aligner.new.pops.top.amount) }
+    // One tick was added, with the counts that the mark stores.
+    ensures ticked { TicksOnce tick.now aligner.old aligner.new result }
+    ensures none_falls { NoneFalls (counts_in aligner.old.publisher) (counts_in aligner.new.publisher) }
+    ensures kept { KeepsOutput aligner.old.publisher aligner.new.publisher }
     ensures causes { IfErr result IsOfAligner }
-    ensures device { HasDevice (standing_of aligner.old.publisher) (standing_of aligner.new.publisher) result }
-    ensures gave { (nows : List ℕ) → K.gave aligner.old.ticker nows → K.gave aligner.new.ticker nows }
+    ensures device { HasDeviceOf aligner.old.publisher aligner.new.publisher result }
+    ensures gave { GivesNone K.gave aligner.old.ticker aligner.new.ticker }
 {
     let soc = second_of(pace, tick.now);
     let repeat = tick.adopted && tick.place == 0;
@@ -166,7 +160,7 @@ fn turn<C: Core + Drop, N: Naming<C::Settings>, M: Mark, K: Ticker, R: Wait>(
         Err(fault) => return Err(fault),
     };
     let adopted = ticked.answer.change.is_some();
-    let asked = Asked {
+    let asked = LayoutRequest {
         step,
         soc,
         is_wanted: adopted || repeat,
@@ -208,7 +202,7 @@ fn tell<C: Core + Drop, N: Naming<C::Settings>, M: Mark, K: Ticker, R: Wait>(
     published: u64,
     ticker: &mut K,
 )
-    ensures { (nows : List ℕ) → K.gave ticker.old nows → K.gave ticker.new nows }
+    ensures { GivesNone K.gave ticker.old ticker.new }
 {
     if ticker.wants_counts() {
         ticker.tell(&told_of(rt, hub, publisher, published));
@@ -223,29 +217,27 @@ fn turns<C: Core + Drop, N: Naming<C::Settings>, M: Mark, K: Ticker, R: Wait>(
     aligner: &mut Aligner<N, M, K>,
     pace: &Pace,
 ) -> Result<u64, HubFault>
-    requires top { (aligner.old.pops.top.parts ≡ N.top.parts) × (0 < aligner.old.pops.top.parts) × (last_in aligner.old.publisher ≡ aligner.old.pops.top.amount) }
-    requires turns { (aligner.old.pops.turns.parts ≡ N.turns.parts) × (0 < aligner.old.pops.turns.parts) }
-    requires front { (aligner.old.pops.front ≡ []) × InTheLife C.rules N.given aligner.old.pops.front (λ g E. E ≡ []) }
-    requires rate { IsAtRate N.given (output_in aligner.old.publisher).rate }
-    requires begins { IsOpen aligner.old.writer × (put_by aligner.old.writer ≡ []) }
-    requires stored { last_in aligner.old.publisher ≤ (M.stored (mark_in aligner.old.publisher)).floor }
+    requires may { MayPublish N.given N.top N.turns aligner.old }
+    requires front { (aligner.old.pops.front ≡ [])
+        × InTheLife C.rules N.given aligner.old.pops.front (λ g E. E ≡ []) }
+    requires begins { put_by aligner.old.writer ≡ [] }
+    ensures parts { HasSameShares aligner.old.pops aligner.new.pops }
     ensures on { GoesOn aligner.old.writer aligner.new.writer }
-    ensures stored { last_in aligner.new.publisher ≤ (M.stored (mark_in aligner.new.publisher)).floor }
-    ensures rising { Rises (last_in aligner.old.publisher) (instants_of (put_by aligner.new.writer)) (last_in aligner.new.publisher) }
-    ensures counted { IfOk result (λ published. published ≡ length (instants_of (put_by aligner.new.writer))) }
-    ensures all { HasPutAll (popped_by aligner.old.pops) (popped_by aligner.new.pops) [] (put_by aligner.new.writer) result }
-    ensures laid { OnOk result (IsLaid C.rules N.given (output_in aligner.old.publisher) pace.now.rate pace.now.layout_every aligner.new.pops.front (put_by aligner.new.writer)) }
-    ensures but { IsLaidBut C.rules N.given (output_in aligner.old.publisher) pace.now.rate pace.now.layout_every aligner.new.pops.front (put_by aligner.new.writer) }
-    ensures turns { aligner.new.pops.turns.parts ≡ aligner.old.pops.turns.parts }
-    ensures ticked { HasTicked (HasGiven K.gave aligner.old.ticker aligner.new.ticker) (M.stored (mark_in aligner.old.publisher)).counts (M.stored (mark_in aligner.new.publisher)).counts (ticks_of aligner.new.pops.front) result }
+    ensures rising { Rises (last_in aligner.old.publisher) (instants_of (put_by aligner.new.writer))
+        (last_in aligner.new.publisher) }
+    ensures all { PutsAll [] aligner.old aligner.new result }
+    ensures counted { IfOk result (λ published.
+        published ≡ length (instants_of (put_by aligner.new.writer))) }
+    ensures out { OnOk result (last_in aligner.new.publisher ≡ aligner.new.pops.top.amount) }
+    ensures laid { OnOk result (HasLaid C.rules N.given
+        (output_in aligner.old.publisher) pace.now aligner.new) }
+    ensures but { HasLaidBut C.rules N.given (output_in aligner.old.publisher) pace.now aligner.new }
+    ensures ticked { HasTickedAs K.gave aligner.old aligner.new result }
     ensures done { OnOk result (IsDone C.rules N.given aligner.new.pops.front) }
     ensures are_done { AreDone C.rules N.given aligner.new.pops.front }
-    ensures output { output_in aligner.new.publisher ≡ output_in aligner.old.publisher }
-    ensures lead { lead_in aligner.new.publisher ≡ lead_in aligner.old.publisher }
-    ensures out { OnOk result (last_in aligner.new.publisher ≡ aligner.new.pops.top.amount) }
-    ensures parts { aligner.new.pops.top.parts ≡ aligner.old.pops.top.parts }
+    ensures kept { KeepsOutput aligner.old.publisher aligner.new.publisher }
     ensures causes { IfErr result IsOfAligner }
-    ensures device { HasDevice (standing_of aligner.old.publisher) (standing_of aligner.new.publisher) result }
+    ensures device { HasDeviceOf aligner.old.publisher aligner.new.publisher result }
 {
     let every = pace.layout_every;
     let first = aligner.pops.count();
@@ -297,28 +289,35 @@ pub fn align<'h, C: Core + Drop, N: Naming<C::Settings>, M: Mark, K: Ticker, R: 
     aligner: &mut Aligner<N, M, K>,
     pace: &Pace,
 ) -> Aligned<'h>
-    requires top { (aligner.old.pops.top.parts ≡ N.top.parts) × (0 < aligner.old.pops.top.parts) × (aligner.old.pops.top.amount ≡ last_in aligner.old.publisher) }
-    requires turns { (aligner.old.pops.turns.parts ≡ N.turns.parts) × (0 < aligner.old.pops.turns.parts) }
-    requires front { (aligner.old.pops.front ≡ []) × InTheLife C.rules N.given aligner.old.pops.front (λ g E. E ≡ []) }
+    requires top { HasAllTop aligner.old.pops N.top
+        × (aligner.old.pops.top.amount ≡ last_in aligner.old.publisher) }
+    requires turns { HasAllTurns aligner.old.pops N.turns }
+    requires front { (aligner.old.pops.front ≡ [])
+        × InTheLife C.rules N.given aligner.old.pops.front (λ g E. E ≡ []) }
     requires rate { IsAtRate N.given (output_in aligner.old.publisher).rate }
     // The core was opened with the start, the floor and the counts that the publisher's mark stores.
     requires opened { IsOpenedWith N.given (M.stored (mark_in aligner.old.publisher)) }
     requires begins { IsOpen aligner.old.writer × (put_by aligner.old.writer ≡ []) }
-    requires stored { last_in aligner.old.publisher ≤ (M.stored (mark_in aligner.old.publisher)).floor }
     ensures same { aligner.new.writer.to ≡ aligner.old.writer.to }
     // The instants put strictly rise, lie above the last one published before, and are at most the floor that is stored then.
-    ensures rising { Rises (last_in aligner.old.publisher) (instants_of (put_by aligner.new.writer)) (M.stored (mark_in aligner.new.publisher)).floor }
+    ensures rising { Rises (last_in aligner.old.publisher) (instants_of (put_by aligner.new.writer))
+        (floor_in aligner.new.publisher) }
     // Each row that was popped was put, but one at most where it failed, which is then lost.
-    ensures all { HasPutAll (popped_by aligner.old.pops) (popped_by aligner.new.pops) [] (put_by aligner.new.writer) result.outcome }
+    ensures all { PutsAll [] aligner.old aligner.new result.outcome }
     // Where it is Ok, all that were published were put, and so many they are; and the end mark was put last.
-    ensures published { IfOk result.outcome (λ published. published ≡ length (instants_of (put_by aligner.new.writer))) }
-    ensures closed { OnOk result.outcome ((body : List Message) × (put_by aligner.new.writer ≡ body ++ End ∷ [])) }
+    ensures published { IfOk result.outcome (λ published.
+        published ≡ length (instants_of (put_by aligner.new.writer))) }
+    ensures closed { OnOk result.outcome ((body : List Message)
+        × (put_by aligner.new.writer ≡ body ++ End ∷ [])) }
+    // Then the greatest instant that was popped is the last one that was published.
+    ensures out { OnOk result.outcome (last_in aligner.new.publisher ≡ aligner.new.pops.top.amount) }
     // What was put are the frames of the life, in order, but for one at most where it failed.
-    ensures laid { OnOk result.outcome (IsLaid C.rules N.given (output_in aligner.old.publisher) pace.now.rate pace.now.layout_every aligner.new.pops.front (put_by aligner.new.writer)) }
-    ensures but { IsLaidBut C.rules N.given (output_in aligner.old.publisher) pace.now.rate pace.now.layout_every aligner.new.pops.front (put_by aligner.new.writer) }
+    ensures laid { OnOk result.outcome (HasLaid C.rules N.given
+        (output_in aligner.old.publisher) pace.now aligner.new) }
+    ensures but { HasLaidBut C.rules N.given (output_in aligner.old.publisher) pace.now aligner.new }
     ensures turns { aligner.new.pops.turns.parts ≡ aligner.old.pops.turns.parts }
     // The ticks of the life are those of the ticker, with counts that never fall from those stored before to those stored then.
-    ensures ticked { HasTicked (HasGiven K.gave aligner.old.ticker aligner.new.ticker) (M.stored (mark_in aligner.old.publisher)).counts (M.stored (mark_in aligner.new.publisher)).counts (ticks_of aligner.new.pops.front) result.outcome }
+    ensures ticked { HasTickedAs K.gave aligner.old aligner.new result.outcome }
     // All rows that were due came out before the next tick, and in the end where it is Ok.
     ensures done { OnOk result.outcome (IsDone C.rules N.given aligner.new.pops.front) }
     ensures are_done { AreDone C.rules N.given aligner.new.pops.front }
@@ -326,11 +325,9 @@ pub fn align<'h, C: Core + Drop, N: Naming<C::Settings>, M: Mark, K: Ticker, R: 
     ensures lead { lead_in aligner.new.publisher ≡ lead_in aligner.old.publisher }
     // The hub is closed.
     ensures shut { result.closed.of ≡ closing_of hub.now }
-    // Where it is Ok, the greatest instant that was popped is the last one that was published.
-    ensures out { OnOk result.outcome (last_in aligner.new.publisher ≡ aligner.new.pops.top.amount) }
     // It fails only so, and by the device only where that failed.
     ensures causes { IfErr result.outcome IsOfAligner }
-    ensures device { HasDevice (standing_of aligner.old.publisher) (standing_of aligner.new.publisher) result.outcome }
+    ensures device { HasDeviceOf aligner.old.publisher aligner.new.publisher result.outcome }
 {
     let done = turns(rt, alloc, hub, aligner, pace);
     let closed = hub.close(rt, &mut aligner.pops);

@@ -1,13 +1,12 @@
 //! Layouts are put on the channel.
-ghost use Rattle.std.specs.Prelude.{◌≡◌, ◌<◌, ◌++◌, ◌∷◌, ℕ, IfErr, IfOk, List, OnErr, OnOk, [], false, true};
+ghost use Rattle.std.specs.Prelude.{◌≡◌, IfErr, IfOk, OnErr, OnOk, true};
 ghost use Rattle.pdc_aligner.specs.Device.{IsOfLayout};
-ghost use Rattle.pdc_aligner.specs.Sequence.{instants_of};
 ghost use Rattle.pdc_aligner.specs.Laid.{HasPutLayout, second_at};
-ghost use Rattle.pdc_hub.specs.Pops.{HasPoppedNone, HasSameShares};
-ghost use Rattle.pdc_log.specs.Log.{HasLooked, InTheLife};
-ghost use Rattle.pdc_pipe.specs.declared.message.LayoutFrame.{LayoutFrame};
-ghost use Rattle.pdc_pipe.specs.declared.message.Message.TheVariants.{Layout};
+ghost use Rattle.pdc_aligner.specs.Sequence.{instants_of};
+ghost use Rattle.pdc_aligner.specs.Turns.{GivesNone};
+ghost use Rattle.pdc_hub.specs.Pops.{HasAllTurns, OnlyLooks};
 ghost use Rattle.pdc_life.specs.Published.{layout_wire};
+ghost use Rattle.pdc_log.specs.Log.{InTheLife};
 ghost use Rattle.pdc_pipe.specs.Writing.{GoesOn, IsOpen, put_by};
 
 use crate::pace::Pace;
@@ -20,7 +19,7 @@ use std::sync::Wait;
 
 /// A layout that may be put.
 #[derive(Clone, Copy, Debug)]
-pub struct Asked {
+pub struct LayoutRequest {
     /// The number of the step that it is put after.
     pub step: u64,
     /// The second that it is dated with.
@@ -44,10 +43,10 @@ fn layout_of<C: Core + Drop, N: Naming<C::Settings>, M, R: Wait>(
     pops: &mut Pops<N, M>,
     soc: u32,
 ) -> Result<LayoutFrame, HubFault>
-    requires { (pops.old.turns.parts ≡ N.turns.parts) × (0 < pops.old.turns.parts) }
-    ensures looked { HasLooked pops.old.front pops.new.front }
-    ensures same { HasPoppedNone pops.old pops.new × HasSameShares pops.old pops.new }
-    ensures layout { IfOk result (λ frame. InTheLife C.rules N.given pops.new.front (λ g E. frame.bytes.items ≡ layout_wire g E soc)) }
+    requires { HasAllTurns pops.old N.turns }
+    ensures looked { OnlyLooks pops.old pops.new }
+    ensures layout { IfOk result (λ frame. InTheLife C.rules N.given pops.new.front
+        (λ g E. frame.bytes.items ≡ layout_wire g E soc)) }
     ensures causes { IfErr result IsOfLayout }
 {
     let mut bytes = Vec::new(alloc);
@@ -65,18 +64,18 @@ fn put_layout<C: Core + Drop, N: Naming<C::Settings>, M, K: Ticker, R: Wait>(
     pops: &mut Pops<N, M>,
     ticker: &mut K,
     writer: &mut Writer,
-    asked: Asked,
+    asked: LayoutRequest,
 ) -> Result<(), HubFault>
-    requires turns { (pops.old.turns.parts ≡ N.turns.parts) × (0 < pops.old.turns.parts) }
+    requires turns { HasAllTurns pops.old N.turns }
     requires open { IsOpen writer.old }
-    ensures looked { HasLooked pops.old.front pops.new.front }
-    ensures same { HasPoppedNone pops.old pops.new × HasSameShares pops.old pops.new }
+    ensures looked { OnlyLooks pops.old pops.new }
     ensures on { GoesOn writer.old writer.new }
-    ensures layout { OnOk result (HasPutLayout C.rules N.given pops.new.front asked.soc true (put_by writer.old) (put_by writer.new)) }
+    ensures layout { OnOk result (HasPutLayout C.rules N.given pops.new.front asked.soc true
+        (put_by writer.old) (put_by writer.new)) }
     ensures err { OnErr result (put_by writer.new ≡ put_by writer.old) }
     ensures instants { instants_of (put_by writer.new) ≡ instants_of (put_by writer.old) }
     ensures causes { IfErr result IsOfLayout }
-    ensures gave { (nows : List ℕ) → K.gave ticker.old nows → K.gave ticker.new nows }
+    ensures gave { GivesNone K.gave ticker.old ticker.new }
 {
     let frame = match layout_of(rt, alloc, hub, pops, asked.soc) {
         Ok(frame) => frame,
@@ -97,18 +96,18 @@ pub fn put_layout_where<C: Core + Drop, N: Naming<C::Settings>, M, K: Ticker, R:
     pops: &mut Pops<N, M>,
     ticker: &mut K,
     writer: &mut Writer,
-    asked: Asked,
+    asked: LayoutRequest,
 ) -> Result<(), HubFault>
-    requires turns { (pops.old.turns.parts ≡ N.turns.parts) × (0 < pops.old.turns.parts) }
+    requires turns { HasAllTurns pops.old N.turns }
     requires open { IsOpen writer.old }
-    ensures looked { HasLooked pops.old.front pops.new.front }
-    ensures same { HasPoppedNone pops.old pops.new × HasSameShares pops.old pops.new }
+    ensures looked { OnlyLooks pops.old pops.new }
     ensures on { GoesOn writer.old writer.new }
-    ensures layout { OnOk result (HasPutLayout C.rules N.given pops.new.front asked.soc asked.is_wanted (put_by writer.old) (put_by writer.new)) }
+    ensures layout { OnOk result (HasPutLayout C.rules N.given pops.new.front asked.soc asked.is_wanted
+        (put_by writer.old) (put_by writer.new)) }
     ensures err { OnErr result (put_by writer.new ≡ put_by writer.old) }
     ensures instants { instants_of (put_by writer.new) ≡ instants_of (put_by writer.old) }
     ensures causes { IfErr result IsOfLayout }
-    ensures gave { (nows : List ℕ) → K.gave ticker.old nows → K.gave ticker.new nows }
+    ensures gave { GivesNone K.gave ticker.old ticker.new }
 {
     if !asked.is_wanted {
         return Ok(());

@@ -1,4 +1,4 @@
--- What a recorder keeps of its settings and its lives, on plain variables.
+-- What is kept of its settings and its lives, on plain variables.
 use Rattle.std.proofs.Common.{◌≡◌, ℕ, ◌+◌, ◌<◌, ◌*◌, Bool, true, List, ◌∷◌, ◌++◌, [], Option, Some, length, refl, sym, ap, ◌∙◌, subst}
 use Rattle.std.proofs.Math.Logic.{∥∥₁_elim, ∥∥₁_map, ∥∥₁_prop}
 use Rattle.std.proofs.Props.{props}

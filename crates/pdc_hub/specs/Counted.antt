@@ -1,8 +1,9 @@
 -- What a delivery adds to the caller's shares.
-use Rattle.std.specs.Prelude.{◌≡◌, ℕ, ◌+◌, ◌-◌, ◌^◌, ◌≤◌, Bool, ◌||◌, nat_le}
+use Rattle.std.specs.Prelude.{◌≡◌, ℕ, ◌+◌, ◌-◌, ◌^◌, ◌<◌, Bool, ◌||◌, nat_le}
 use Rattle.pdc_core.specs.Step.{Counts}
 use Rattle.pdc_life.specs.declared.outcome.Outcome.{Outcome}
 use Rattle.pdc_life.specs.declared.outcome.Outcome.TheVariants.{Taken, Candidate, Known, Refused}
+use Rattle.pdc_hub.specs.Cut.{Cut}
 use Rattle.pdc_hub.specs.declared.shares.Shares.{Shares}
 
 abbrev pub taken_by : Outcome → ℕ
@@ -31,11 +32,35 @@ is_at_greatest total = nat_le (2 ^ 64 - 1) total
 abbrev pub is_used_up : (taken refused configured : ℕ) → Bool
 is_used_up taken refused configured = is_at_greatest taken || (is_at_greatest refused || is_at_greatest configured)
 
--- A value that counts at least so much.
-pub record CountsAtLeast (counts : Counts) (taken refused : ℕ) (more : ℕ) : Type 0 where
-  pub taken_counted : taken ≤ counts.taken
-  pub refused_counted : refused ≤ counts.refused
-  pub configured_counted : more ≤ configurations counts
+-- The shares are one part of each ledger;
+abbrev pub AreOnePart : {N : Type 0} → Shares N → Type 0
+AreOnePart shares = (shares.taken.parts ≡ 1) × (shares.refused.parts ≡ 1) × (shares.configured.parts ≡ 1)
+
+-- some parts;
+abbrev pub AreSomeParts : {N : Type 0} → Shares N → Type 0
+AreSomeParts shares = (0 < shares.taken.parts) × (0 < shares.refused.parts) × (0 < shares.configured.parts)
+
+-- all parts of these ledgers.
+abbrev pub AreAllParts : {N : Type 0} → Shares N → (taken refused configured : Cut) → Type 0
+AreAllParts shares taken refused configured = (shares.taken.parts ≡ taken.parts) × (shares.refused.parts ≡ refused.parts) × (shares.configured.parts ≡ configured.parts)
+
+-- They have counted nothing;
+abbrev pub HaveCountedNone : {N : Type 0} → Shares N → Type 0
+HaveCountedNone shares = (shares.taken.amount ≡ 0) × (shares.refused.amount ≡ 0) × (shares.configured.amount ≡ 0)
+
+-- what these counters say;
+abbrev pub HaveCountedAs : {N : Type 0} → Shares N → Counts → Type 0
+HaveCountedAs shares counts = (counts.taken ≡ shares.taken.amount) × (counts.refused ≡ shares.refused.amount) × (configurations counts ≡ shares.configured.amount)
+
+-- from the one to the other, one answer more.
+abbrev pub HaveCountedOne : {N : Type 0} → (old new : Shares N) → Outcome → Type 0
+HaveCountedOne old new outcome =
+    (new.taken.amount ≡ old.taken.amount + taken_by outcome) × (new.refused.amount ≡ old.refused.amount + refused_by outcome)
+    × (new.configured.amount ≡ old.configured.amount + configured_by outcome)
+
+-- how much they have counted together
+abbrev pub sum_of : {N : Type 0} → Shares N → ℕ
+sum_of shares = (shares.taken.amount + shares.refused.amount) + shares.configured.amount
 
 -- The shares are as many parts as they were, and they count what they counted.
 abbrev pub HasSameParts : {N : Type 0} → (old new : Shares N) → Type 0
@@ -43,3 +68,7 @@ HasSameParts old new = (new.taken.parts ≡ old.taken.parts) × (new.refused.par
 
 abbrev pub HasSameAmounts : {N : Type 0} → (old new : Shares N) → Type 0
 HasSameAmounts old new = (new.taken.amount ≡ old.taken.amount) × (new.refused.amount ≡ old.refused.amount) × (new.configured.amount ≡ old.configured.amount)
+
+-- Nothing was counted, nor seen.
+abbrev pub AreAsBefore : {N : Type 0} → (old new : Shares N) → Type 0
+AreAsBefore old new = HasSameAmounts old new × (new.front ≡ old.front)

@@ -1,27 +1,26 @@
-//! The lock round a recorder.
-ghost use Rattle.std.specs.Prelude.{◌≡◌, ◌+◌, ◌*◌, ◌^◌, ◌<◌, ◌≤◌, ◌++◌, ℕ, Err, IfErr, IfOk, IfSome, List, None, Ok, OnErr, OnOk, Option, Some, [], true, false};
-ghost use Rattle.pdc_core.specs.Step.{ticked_of};
+//! The lock round a core.
+ghost use Rattle.std.specs.Prelude.{◌≡◌, ◌^◌, ◌<◌, ◌≤◌, Err, IfOk, IfSome, OnErr, OnOk, Some, [], false, true};
 ghost use Rattle.pdc_core.specs.KeptArrival.{taken_view};
-ghost use Rattle.pdc_life.specs.Answer.{pop_answer, tick_answer, waiting_counts};
-ghost use Rattle.pdc_life.specs.Given.{Given};
-ghost use Rattle.pdc_life.specs.Life.{Entry, changes};
-ghost use Rattle.pdc_life.specs.Published.{layout_wire};
+ghost use Rattle.pdc_core.specs.Step.{ticked_of};
+ghost use Rattle.pdc_life.specs.Answer.{waiting_counts};
 ghost use Rattle.pdc_life.specs.Row.{is_whole};
+ghost use Rattle.pdc_hub.specs.Adding.{AddsArrival, AddsPop, AddsTick, IsLayoutBehind};
 ghost use Rattle.pdc_hub.specs.Closing.{closing_of};
-ghost use Rattle.pdc_hub.specs.Counted.{HasSameAmounts, HasSameParts, configurations, configured_by, refused_by, taken_by};
-ghost use Rattle.pdc_hub.specs.Pops.{HasPoppedNone, HasPoppedOne, HasSameShares, IsPop, popped_by};
+ghost use Rattle.pdc_hub.specs.Counted.{AreAllParts, AreAsBefore, AreSomeParts, HasSameAmounts, HasSameParts, sum_of};
+ghost use Rattle.pdc_hub.specs.Counted.{HaveCountedAs, HaveCountedNone, HaveCountedOne};
+ghost use Rattle.pdc_hub.specs.Opened.{AreCut, AreNamed, AreOpened};
+ghost use Rattle.pdc_hub.specs.Pops.{CanBeTagged, HasAllTop, HasAllTurns, OnlyLooks, PopsNothing, popped_by};
+ghost use Rattle.pdc_hub.specs.Pops.{HasPoppedNone, HasPoppedOne, HasSameShares};
 ghost use Rattle.pdc_hub.specs.Replay.{AreSaid, WasRead};
-ghost use Rattle.pdc_log.specs.Log.{HasAdded, HasLooked, HasTurned, InTheLife, came_in};
-ghost use Rattle.pdc_life.specs.Answer.{ToArrive, ToPop, ToTick};
-ghost use mathlib.Core.List.{IsPrefix};
+ghost use Rattle.pdc_log.specs.Log.{InTheLife, came_in};
 ghost use Rattle.pdc_memory.specs.Asking.{WasRefused};
-ghost use Rattle.pdc_frame.specs.declared.tag_limits.TheConstants.{SECONDS};
+ghost use mathlib.Core.List.{IsPrefix};
 
 use crate::fault::HubFault;
 use crate::ledgers::{ConfiguredIn, RefusedIn, TakenIn, TopIn, TurnsIn};
+use crate::locked_core::LockedCore;
 use crate::naming::Naming;
 use crate::pops::Pops;
-use crate::recorder::Recorder;
 use crate::shares::{Blanks, Books, Shares};
 use pdc_core::{Core, Counts, KeptArrival, Ticked};
 use pdc_frame::Buffer;
@@ -32,11 +31,11 @@ use pdc_ports::Numbered;
 use std::alloc::{AllocError, Global};
 use std::sync::{Mutex, OnceLock, OnceToken, Wait};
 
-/// The lock round a recorder, and beside it whether no more is to be delivered. Each call but [`Hub::closed`] takes the lock once, and may
+/// The lock round a core, and beside it whether no more is to be delivered. Each call but [`Hub::closed`] takes the lock once, and may
 /// wait for it.
 #[derive(Drop)]
 pub struct Hub<C: Core + Drop, N: Naming<C::Settings>> {
-    table: Mutex<Recorder<C, N>>,
+    table: Mutex<LockedCore<C, N>>,
     closing: OnceLock<()>,
 }
 
@@ -56,18 +55,19 @@ impl<C: Core + Drop, N: Naming<C::Settings>> Hub<C, N> {
         floor: u64,
         blanks: Blanks,
     ) -> Result<(Self, Shares<N>, Pops<N, M>), AllocError>
-        requires alike { (g : Given) × (N.given ≡ Some g) × C.stands_for base g [] × C.stands_for now g [] }
-        requires settings { (N.settings ≡ Some (C.settings_of base)) × (N.settings ≡ Some (C.settings_of now)) }
+        requires alike { AreOpened N.given (C.stands_for base) (C.stands_for now) }
+        requires settings { (N.settings ≡ Some (C.settings_of base))
+            × (N.settings ≡ Some (C.settings_of now)) }
         requires limit { 1 ≤ limit }
         requires floor { C.popped_of now ≡ floor }
-        requires names { (blanks.taken.name ≡ N.taken.name) × (blanks.refused.name ≡ N.refused.name) × (blanks.configured.name ≡ N.configured.name) × (blanks.top.name ≡ N.top.name) × (blanks.turns.name ≡ N.turns.name) }
+        requires names { AreNamed blanks N.taken N.refused N.configured N.top N.turns }
         requires log { (blanks.log.seen.book ≡ N.book) × (blanks.log.seen.log ≡ []) }
-        requires blank { (blanks.taken.parts ≡ N.taken.parts) × (blanks.refused.parts ≡ N.refused.parts) × (blanks.configured.parts ≡ N.configured.parts) × (blanks.top.parts ≡ N.top.parts) × (0 < N.top.parts) × (blanks.turns.parts ≡ N.turns.parts) × (0 < N.turns.parts) }
-        ensures parts { IfOk result (λ made. (made.1.taken.parts ≡ N.taken.parts) × (made.1.refused.parts ≡ N.refused.parts)
-            × (made.1.configured.parts ≡ N.configured.parts) × (made.2.top.parts ≡ N.top.parts) × (made.2.turns.parts ≡ N.turns.parts)) }
-        ensures amounts { IfOk result (λ made. (made.1.taken.amount ≡ 0) × (made.1.refused.amount ≡ 0)
-            × (made.1.configured.amount ≡ 0) × (made.2.top.amount ≡ floor)) }
-        ensures none { IfOk result (λ made. (popped_by made.2 ≡ 0) × (made.1.front ≡ []) × (made.2.front ≡ [])) }
+        requires blank { AreCut blanks N.taken N.refused N.configured N.top N.turns }
+        ensures parts { IfOk result (λ made. AreAllParts made.1 N.taken N.refused N.configured
+            × (made.2.top.parts ≡ N.top.parts) × (made.2.turns.parts ≡ N.turns.parts)) }
+        ensures amounts { IfOk result (λ made. HaveCountedNone made.1 × (made.2.top.amount ≡ floor)) }
+        ensures none { IfOk result (λ made. (popped_by made.2 ≡ 0) × (made.1.front ≡ [])
+            × (made.2.front ≡ [])) }
         ensures denied { OnErr result (WasRefused limit) }
     {
         let Blanks {
@@ -93,10 +93,10 @@ impl<C: Core + Drop, N: Naming<C::Settings>> Hub<C, N> {
             top,
             turns,
         };
-        let recorder = Recorder::new(alloc, base, now, limit, floor, books, log)?;
+        let core = LockedCore::new(alloc, base, now, limit, floor, books, log)?;
         Ok((
             Hub {
-                table: Mutex::new(recorder),
+                table: Mutex::new(core),
                 closing: OnceLock::new(),
             },
             Shares {
@@ -109,9 +109,8 @@ impl<C: Core + Drop, N: Naming<C::Settings>> Hub<C, N> {
         ))
     }
 
-    /// Adds what arrived for a stream, and counts its answer in the caller's shares. The answer is the core's in some life of what is
-    /// named, and the core had counted at least what the shares had. It bears the number of the step, given under the lock: how many steps
-    /// that life had.
+    /// Adds what arrived for a stream, and counts its answer in the caller's shares. The answer is that of the one life, behind all that the
+    /// caller had seen of it, and bears the number of the step, given under the lock: how many steps that life had.
     ///
     /// # Errors
     ///
@@ -124,17 +123,16 @@ impl<C: Core + Drop, N: Naming<C::Settings>> Hub<C, N> {
         datagram: KeptArrival,
         mine: &mut Shares<N>,
     ) -> Result<Numbered<Outcome>, HubFault>
-        requires read { WasRead C.Settings.says C.Settings.fits N.settings stream bytes.now (taken_view datagram) }
-        requires parts { (0 < mine.old.taken.parts) × (0 < mine.old.refused.parts) × (0 < mine.old.configured.parts) }
-        ensures added { IfOk result (λ numbered. HasAdded C.rules N.given (ToArrive stream bytes.now (taken_view datagram)) mine.old.front mine.new.front numbered.step
-            (λ g E. numbered.answer ≡ (C.rules g E stream (taken_view datagram)).outcome)) }
-        ensures taken { IfOk result (λ numbered. mine.new.taken.amount ≡ mine.old.taken.amount + taken_by numbered.answer) }
-        ensures refused { IfOk result (λ numbered. mine.new.refused.amount ≡ mine.old.refused.amount + refused_by numbered.answer) }
-        ensures configured { IfOk result (λ numbered. mine.new.configured.amount ≡ mine.old.configured.amount + configured_by numbered.answer) }
+        requires read { WasRead C.Settings.says C.Settings.fits N.settings stream bytes.now
+            (taken_view datagram) }
+        requires parts { AreSomeParts mine.old }
+        ensures added { IfOk result (AddsArrival C.rules N.given stream bytes.now
+            (taken_view datagram) mine.old mine.new) }
+        ensures counted { IfOk result (λ numbered. HaveCountedOne mine.old mine.new numbered.answer) }
         ensures most { (mine.new.taken.amount < 2 ^ 64) × (mine.new.refused.amount < 2 ^ 64) }
         ensures parts { HasSameParts mine.old mine.new }
         ensures causes { OnErr result (result ≡ Err HubFault.CountsUsedUp) }
-        ensures err { OnErr result (HasSameAmounts mine.old mine.new × (mine.new.front ≡ mine.old.front)) }
+        ensures err { OnErr result (AreAsBefore mine.old mine.new) }
     {
         self.table
             .lock(rt)
@@ -151,10 +149,10 @@ impl<C: Core + Drop, N: Naming<C::Settings>> Hub<C, N> {
         now: u64,
         mark: &M,
     ) -> Numbered<Ticked>
-        requires { (pops.old.turns.parts ≡ N.turns.parts) × (0 < pops.old.turns.parts) }
-        ensures turned { HasTurned C.rules N.given (ToTick now (M.stored mark.now).counts) pops.old.front pops.new.front result.step
-            (λ g E. result.answer ≡ ticked_of (changes E) (tick_answer g E now (M.stored mark.now).counts)) }
-        ensures none { HasPoppedNone pops.old pops.new × HasSameShares pops.old pops.new }
+        requires { HasAllTurns pops.old N.turns }
+        ensures turned { AddsTick ticked_of C.rules N.given now
+            (M.stored mark.now).counts pops.old pops.new result }
+        ensures none { PopsNothing pops.old pops.new }
     {
         let counts = mark.counts();
         self.table.lock(rt).tick(rt, pops, now, &counts)
@@ -163,13 +161,12 @@ impl<C: Core + Drop, N: Naming<C::Settings>> Hub<C, N> {
     /// Pops the lowest row that closed and was not popped, which is written over the one popped before, and counts it. Whether there was one.
     /// It lies above all rows popped before, and its instant can be tagged. The answer bears the number of the step.
     pub fn pop<M, R: Wait>(&self, rt: &R, pops: &mut Pops<N, M>) -> Numbered<bool>
-        requires top { (pops.old.top.parts ≡ N.top.parts) × (0 < pops.old.top.parts) }
-        requires turns { (pops.old.turns.parts ≡ N.turns.parts) × (0 < pops.old.turns.parts) }
-        ensures turned { HasTurned C.rules N.given ToPop pops.old.front pops.new.front result.step
-            (λ g E. IsPop result.answer pops.new.row (pop_answer E)) }
+        requires top { HasAllTop pops.old N.top }
+        requires turns { HasAllTurns pops.old N.turns }
+        ensures turned { AddsPop C.rules N.given pops.old pops.new result }
         // A row that was popped lies above all before, and is counted; only such a row is.
         ensures row { result.answer ≡ true → HasPoppedOne pops.old pops.new }
-        ensures tagged { result.answer ≡ true → (g : Given) → N.given ≡ Some g → pops.new.row.instant < SECONDS * g.output.rate }
+        ensures tagged { result.answer ≡ true → CanBeTagged N.given pops.new.row }
         ensures none { result.answer ≡ false → HasPoppedNone pops.old pops.new }
         ensures parts { HasSameShares pops.old pops.new }
     {
@@ -188,10 +185,10 @@ impl<C: Core + Drop, N: Naming<C::Settings>> Hub<C, N> {
         soc: u32,
         out: &mut B,
     ) -> Result<(), HubFault>
-        requires { (pops.old.turns.parts ≡ N.turns.parts) × (0 < pops.old.turns.parts) }
-        ensures looked { HasLooked pops.old.front pops.new.front }
-        ensures same { HasPoppedNone pops.old pops.new × HasSameShares pops.old pops.new }
-        ensures layout { OnOk result (InTheLife C.rules N.given pops.new.front (λ g E. B.content out.new ≡ B.content out.old ++ layout_wire g E soc)) }
+        requires { HasAllTurns pops.old N.turns }
+        ensures looked { OnlyLooks pops.old pops.new }
+        ensures layout { OnOk result (IsLayoutBehind C.rules N.given pops.new.front soc
+            (B.content out.old) (B.content out.new)) }
         ensures causes { OnErr result (result ≡ Err HubFault.NoMemory) }
         ensures err { OnErr result (B.content out.new ≡ B.content out.old) }
     {
@@ -205,15 +202,14 @@ impl<C: Core + Drop, N: Naming<C::Settings>> Hub<C, N> {
 
     /// How arrivals were answered. Who has all parts learns that these are the amounts of the shares.
     pub fn totals<M, R: Wait>(&self, rt: &R, all: &mut Shares<N>, pops: &mut Pops<N, M>) -> Counts
-        requires turns { (pops.old.turns.parts ≡ N.turns.parts) × (0 < pops.old.turns.parts) }
-        requires parts { (all.old.taken.parts ≡ N.taken.parts) × (all.old.refused.parts ≡ N.refused.parts) × (all.old.configured.parts ≡ N.configured.parts) }
-        ensures amounts { (result.taken ≡ all.old.taken.amount) × (result.refused ≡ all.old.refused.amount) × (configurations result ≡ all.old.configured.amount) }
+        requires turns { HasAllTurns pops.old N.turns }
+        requires parts { AreAllParts all.old N.taken N.refused N.configured }
+        ensures amounts { HaveCountedAs all.old result }
         ensures kept { HasSameAmounts all.old all.new }
         ensures parts { HasSameParts all.old all.new }
-        ensures same { HasPoppedNone pops.old pops.new × HasSameShares pops.old pops.new }
-        ensures looked { HasLooked pops.old.front pops.new.front }
+        ensures looked { OnlyLooks pops.old pops.new }
         ensures later { IsPrefix all.old.front pops.new.front }
-        ensures came { came_in pops.new.front ≡ (all.old.taken.amount + all.old.refused.amount) + all.old.configured.amount }
+        ensures came { came_in pops.new.front ≡ sum_of all.old }
         ensures said { ∥ AreSaid (WasRead C.Settings.says C.Settings.fits N.settings) pops.new.front ∥₁ }
     {
         self.table.lock(rt).totals(rt, all, pops)
@@ -221,10 +217,9 @@ impl<C: Core + Drop, N: Naming<C::Settings>> Hub<C, N> {
 
     /// Shows all steps to who pops, among them all that these shares saw. Each was read from bytes that say it.
     pub fn look<M, R: Wait>(&self, rt: &R, all: &mut Shares<N>, pops: &mut Pops<N, M>)
-        requires { (pops.old.turns.parts ≡ N.turns.parts) × (0 < pops.old.turns.parts) }
+        requires { HasAllTurns pops.old N.turns }
         ensures kept { HasSameAmounts all.old all.new × HasSameParts all.old all.new }
-        ensures same { HasPoppedNone pops.old pops.new × HasSameShares pops.old pops.new }
-        ensures looked { HasLooked pops.old.front pops.new.front }
+        ensures looked { OnlyLooks pops.old pops.new }
         ensures later { IsPrefix all.old.front pops.new.front }
         ensures said { ∥ AreSaid (WasRead C.Settings.says C.Settings.fits N.settings) pops.new.front ∥₁ }
     {
@@ -233,9 +228,8 @@ impl<C: Core + Drop, N: Naming<C::Settings>> Hub<C, N> {
 
     /// For each column the count that waits to be stored.
     pub fn waiting<M, R: Wait>(&self, rt: &R, pops: &mut Pops<N, M>) -> [u16; MAX_PMUS]
-        requires { (pops.old.turns.parts ≡ N.turns.parts) × (0 < pops.old.turns.parts) }
-        ensures looked { HasLooked pops.old.front pops.new.front }
-        ensures same { HasPoppedNone pops.old pops.new × HasSameShares pops.old pops.new }
+        requires { HasAllTurns pops.old N.turns }
+        ensures looked { OnlyLooks pops.old pops.new }
         ensures waits { InTheLife C.rules N.given pops.new.front (λ g E. result ≡ waiting_counts g E) }
     {
         self.table.lock(rt).waiting(rt, pops)
@@ -252,7 +246,7 @@ impl<C: Core + Drop, N: Naming<C::Settings>> Hub<C, N> {
 
     /// No more is to be delivered. Only who pops closes it, with all parts of the share, so no receiver does. Answers what shows it.
     pub fn close<M, R: Wait>(&self, rt: &R, pops: &mut Pops<N, M>) -> OnceToken<'_, ()>
-        requires { (pops.old.top.parts ≡ N.top.parts) × (0 < pops.old.top.parts) }
+        requires { HasAllTop pops.old N.top }
         ensures closed { result.of ≡ closing_of self.now }
         ensures kept { pops.new ≡ pops.old }
     {

@@ -15,9 +15,9 @@ pub struct Intake<'h, C: Core + Drop, N: Naming<C::Settings>> {
     pub settings: &'h C::Settings,
 }
 
-/// What a receiver is given beside its source.
+/// One stream's way in: what a receiver is given beside its source.
 #[derive(Drop)]
-pub struct Place<N: Ledgers> {
+pub struct Inlet<N: Ledgers> {
     /// The number of its stream, from 0.
     pub stream: usize,
     /// Where its source writes a datagram.

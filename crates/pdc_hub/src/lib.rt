@@ -1,8 +1,8 @@
 //! What stands under the lock of a running core: a core beside a base and the steps since, with the books of what they counted (this
 //! profile).
 //!
-//! The first type to look at is [`Recorder`]. Its core is at every moment the replay of the kept steps over the base, and its books
-//! have the core's counters.
+//! The first type to look at is [`Hub`], the lock. Under it the core is at every moment the replay of the kept steps over the base, and the
+//! books have the core's counters.
 //!
 //! The promise to the layers above: each call adds exactly the caller's step and answers what the core answers it, or adds none and
 //! says why; what the step counted is in the caller's share.
@@ -12,22 +12,21 @@ mod fault;
 mod hub;
 mod intake;
 mod ledgers;
+mod locked_core;
 mod looking;
 mod naming;
 mod pops;
 mod receiver;
-mod recorder;
 mod replayed;
 mod shares;
 mod totals;
 
 pub use fault::HubFault;
 pub use hub::Hub;
-pub use intake::{Intake, Place};
+pub use intake::{Inlet, Intake};
 pub use ledgers::{ConfiguredIn, Ledgers, RefusedIn, TakenIn, TopIn};
 pub use naming::Naming;
 pub use pops::Pops;
 pub use receiver::{Received, receive};
-pub use recorder::Recorder;
 pub use replayed::Replayed;
 pub use shares::{Blanks, Books, Shares};

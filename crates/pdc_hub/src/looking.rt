@@ -1,29 +1,28 @@
 //! What is told of the value under the lock: its counts, the log, and what waits.
-ghost use Rattle.std.specs.Prelude.{◌≡◌, ◌+◌, ◌<◌, ℕ, List};
+ghost use Rattle.std.specs.Prelude.{◌≡◌};
 ghost use Rattle.pdc_life.specs.Answer.{waiting_counts};
-ghost use Rattle.pdc_life.specs.Given.{Given};
-ghost use Rattle.pdc_life.specs.Life.{Entry};
 ghost use Rattle.pdc_life.specs.Row.{is_whole};
-ghost use Rattle.pdc_hub.specs.Counted.{HasSameAmounts, HasSameParts, configurations};
-ghost use Rattle.pdc_hub.specs.Pops.{HasPoppedNone, HasSameShares};
+ghost use Rattle.pdc_hub.specs.Counted.{AreAllParts, HasSameAmounts, HasSameParts, HaveCountedAs, configurations, sum_of};
+ghost use Rattle.pdc_hub.specs.Pops.{HasAllTurns, OnlyLooks};
 ghost use Rattle.pdc_hub.specs.Replay.{AreSaid, WasRead};
-ghost use Rattle.pdc_log.specs.Log.{HasLooked, InTheLife, came_in};
+ghost use Rattle.pdc_log.specs.Log.{InTheLife, came_in};
 ghost use mathlib.Core.List.{IsPrefix};
 
+use crate::locked_core::LockedCore;
 use crate::naming::Naming;
 use crate::pops::Pops;
-use crate::recorder::Recorder;
 use crate::shares::Shares;
 use pdc_core::{Core, Counts};
 use pdc_life::MAX_PMUS;
 use pdc_log::Front;
 use std::sync::Wait;
 
-impl<C: Core + Drop, N: Naming<C::Settings>> Recorder<C, N> {
+impl<C: Core + Drop, N: Naming<C::Settings>> LockedCore<C, N> {
     /// How arrivals were answered.
     pub fn counts(&self) -> Counts
         ensures value { result ≡ C.counts_of self.now.core.state }
-        ensures totals { (result.taken ≡ self.now.taken.total) × (result.refused ≡ self.now.refused.total) × (configurations result ≡ self.now.configured.total) }
+        ensures totals { (result.taken ≡ self.now.taken.total) × (result.refused ≡ self.now.refused.total)
+            × (configurations result ≡ self.now.configured.total) }
     {
         self.core.state.counts()
     }
@@ -36,20 +35,19 @@ impl<C: Core + Drop, N: Naming<C::Settings>> Recorder<C, N> {
         all: &mut Shares<N>,
         pops: &mut Pops<N, M>,
     ) -> Counts
-        requires turns { (pops.old.turns.parts ≡ N.turns.parts) × (0 < pops.old.turns.parts) }
-        requires parts { (all.old.taken.parts ≡ N.taken.parts) × (all.old.refused.parts ≡ N.refused.parts) × (all.old.configured.parts ≡ N.configured.parts) }
-        ensures amounts { (result.taken ≡ all.old.taken.amount) × (result.refused ≡ all.old.refused.amount) × (configurations result ≡ all.old.configured.amount) }
+        requires turns { HasAllTurns pops.old N.turns }
+        requires parts { AreAllParts all.old N.taken N.refused N.configured }
+        ensures amounts { HaveCountedAs all.old result }
         ensures kept { HasSameAmounts all.old all.new }
         ensures parts { HasSameParts all.old all.new }
-        ensures same { HasPoppedNone pops.old pops.new × HasSameShares pops.old pops.new }
-        ensures looked { HasLooked pops.old.front pops.new.front }
+        ensures looked { OnlyLooks pops.old pops.new }
         ensures later { IsPrefix all.old.front pops.new.front }
-        ensures came { came_in pops.new.front ≡ (all.old.taken.amount + all.old.refused.amount) + all.old.configured.amount }
+        ensures came { came_in pops.new.front ≡ sum_of all.old }
         ensures said { ∥ AreSaid (WasRead C.Settings.says C.Settings.fits N.settings) pops.new.front ∥₁ }
     {
         self.show(rt, pops);
         let counts = self.counts();
-        let Recorder {
+        let LockedCore {
             core,
             taken,
             refused,
@@ -65,10 +63,9 @@ impl<C: Core + Drop, N: Naming<C::Settings>> Recorder<C, N> {
 
     /// Shows all steps to who pops, among them all that these shares saw. Each was read from bytes that say it.
     pub fn look<M, R: Wait>(&mut self, rt: &R, all: &mut Shares<N>, pops: &mut Pops<N, M>)
-        requires { (pops.old.turns.parts ≡ N.turns.parts) × (0 < pops.old.turns.parts) }
+        requires { HasAllTurns pops.old N.turns }
         ensures kept { HasSameAmounts all.old all.new × HasSameParts all.old all.new }
-        ensures same { HasPoppedNone pops.old pops.new × HasSameShares pops.old pops.new }
-        ensures looked { HasLooked pops.old.front pops.new.front }
+        ensures looked { OnlyLooks pops.old pops.new }
         ensures later { IsPrefix all.old.front pops.new.front }
         ensures said { ∥ AreSaid (WasRead C.Settings.says C.Settings.fits N.settings) pops.new.front ∥₁ }
     {
@@ -78,10 +75,8 @@ impl<C: Core + Drop, N: Naming<C::Settings>> Recorder<C, N> {
 
     /// For each column the count that waits to be stored.
     pub fn waiting<M, R: Wait>(&mut self, rt: &R, pops: &mut Pops<N, M>) -> [u16; MAX_PMUS]
-        requires { (pops.old.turns.parts ≡ N.turns.parts) × (0 < pops.old.turns.parts) }
-        ensures value { (g : Given) (E : List Entry) → C.stands_for self.old.core.state g E → result ≡ waiting_counts g E }
-        ensures looked { HasLooked pops.old.front pops.new.front }
-        ensures same { HasPoppedNone pops.old pops.new × HasSameShares pops.old pops.new }
+        requires { HasAllTurns pops.old N.turns }
+        ensures looked { OnlyLooks pops.old pops.new }
         ensures waits { InTheLife C.rules N.given pops.new.front (λ g E. result ≡ waiting_counts g E) }
     {
         self.show(rt, pops);

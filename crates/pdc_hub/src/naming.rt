@@ -6,7 +6,7 @@ use crate::ledgers::Ledgers;
 use std::marker::Brand;
 
 /// Which life is recorded, and in which ledgers: what is given to it, and the settings by which its bytes are read. It exists for contracts
-/// alone, and each call of a program that makes a recorder picks it.
+/// alone, and each call of a program that makes a hub picks it.
 pub trait Naming<S>: Ledgers {
     ghost given: { Option Given };
 

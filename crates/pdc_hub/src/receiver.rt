@@ -1,15 +1,15 @@
 //! One receiver: what it reads of its source, outside the lock, it delivers.
-ghost use Rattle.std.specs.Prelude.{◌≡◌, ◌<◌, ◌≤◌, ◌+◌, ◌^◌, ℕ, IfErr, IfOk, IfSome, IsSome, List, OnErr, Some, length};
+ghost use Rattle.std.specs.Prelude.{◌≡◌, ◌<◌, ◌≤◌, ◌^◌, IfErr, IfOk, IfSome, IsSome, List, OnErr, Some};
 ghost use Rattle.pdc_hub.specs.Closing.{closing_of};
-ghost use Rattle.pdc_hub.specs.Counted.{HasSameParts, configured_by, refused_by, taken_by};
-ghost use Rattle.pdc_ports.specs.Failures.{HasRisen};
-ghost use Rattle.pdc_ports.specs.Heard.{HasTold, Heard};
+ghost use Rattle.pdc_hub.specs.Counted.{AreAsBefore, AreOnePart, AreSomeParts, HasSameParts, HaveCountedNone, HaveCountedOne};
 ghost use Rattle.pdc_hub.specs.Faults.{IsOfDelivery, IsOfReceiver};
 ghost use Rattle.pdc_hub.specs.Received.{AreBrought, HasReceived, WasBrought};
+ghost use Rattle.pdc_ports.specs.Failures.{HasRisen};
+ghost use Rattle.pdc_ports.specs.Heard.{HasTold, Heard};
 
 use crate::fault::HubFault;
 use crate::hub::Hub;
-use crate::intake::{Intake, Place};
+use crate::intake::{Inlet, Intake};
 use crate::ledgers::Ledgers;
 use crate::naming::Naming;
 use crate::shares::Shares;
@@ -33,7 +33,8 @@ pub struct Received<'h, N: Ledgers> {
     pub fault: Option<HubFault>,
     /// What shows that the hub was closed, where it ended at the close.
     pub closed: Option<OnceToken<'h, ()>>,
-    pub ghost one_part: { (shares.taken.parts ≡ 1) × (shares.refused.parts ≡ 1) × (shares.configured.parts ≡ 1) },
+    pub ghost one_part: { (shares.taken.parts ≡ 1) × (shares.refused.parts ≡ 1)
+        × (shares.configured.parts ≡ 1) },
     pub ghost same: { (shares.taken.amount ≡ taken) × (shares.refused.amount ≡ refused) },
 }
 
@@ -48,15 +49,15 @@ fn hand_in<C: Core + Drop, N: Naming<C::Settings>, R: Wait>(
 ) -> Result<Numbered<Outcome>, HubFault>
     requires settings { N.settings ≡ Some intake.now.settings.now }
     requires stream { stream < C.Settings.streams intake.now.settings.now }
-    requires parts { (0 < shares.old.taken.parts) × (0 < shares.old.refused.parts) × (0 < shares.old.configured.parts) }
-    ensures answer { IfOk result (λ numbered. WasBrought C.rules N.given stream bytes.now shares.old.front shares.new.front numbered.answer) }
-    ensures taken { IfOk result (λ numbered. shares.new.taken.amount ≡ shares.old.taken.amount + taken_by numbered.answer) }
-    ensures refused { IfOk result (λ numbered. shares.new.refused.amount ≡ shares.old.refused.amount + refused_by numbered.answer) }
-    ensures configured { IfOk result (λ numbered. shares.new.configured.amount ≡ shares.old.configured.amount + configured_by numbered.answer) }
-    ensures most { IfOk result (λ _. (shares.new.taken.amount < 2 ^ 64) × (shares.new.refused.amount < 2 ^ 64)) }
+    requires parts { AreSomeParts shares.old }
+    ensures answer { IfOk result (λ numbered. WasBrought C.rules N.given stream bytes.now
+        shares.old.front shares.new.front numbered.answer) }
+    ensures counted { IfOk result (λ numbered. HaveCountedOne shares.old shares.new numbered.answer) }
+    ensures most { IfOk result (λ _. (shares.new.taken.amount < 2 ^ 64)
+        × (shares.new.refused.amount < 2 ^ 64)) }
     ensures parts { HasSameParts shares.old shares.new }
     ensures causes { IfErr result IsOfDelivery }
-    ensures err { OnErr result ((shares.new.taken.amount ≡ shares.old.taken.amount) × (shares.new.refused.amount ≡ shares.old.refused.amount) × (shares.new.configured.amount ≡ shares.old.configured.amount) × (shares.new.front ≡ shares.old.front)) }
+    ensures err { OnErr result (AreAsBefore shares.old shares.new) }
 {
     match intake.settings.read_kept(alloc, stream, bytes) {
         Ok(datagram) => intake.hub.deliver(rt, stream, bytes, datagram, shares),
@@ -71,24 +72,27 @@ pub fn receive<'h, C: Core + Drop, N: Naming<C::Settings>, S: Source, R: Wait>(
     alloc: Global,
     intake: &Intake<'h, C, N>,
     source: &mut S,
-    place: Place<N>,
+    inlet: Inlet<N>,
 ) -> Received<'h, N>
     requires settings { N.settings ≡ Some intake.now.settings.now }
-    requires stream { place.stream < C.Settings.streams intake.now.settings.now }
-    requires parts { (place.shares.taken.parts ≡ 1) × (place.shares.refused.parts ≡ 1) × (place.shares.configured.parts ≡ 1) }
-    requires amounts { (place.shares.taken.amount ≡ 0) × (place.shares.refused.amount ≡ 0) × (place.shares.configured.amount ≡ 0) }
+    requires stream { inlet.stream < C.Settings.streams intake.now.settings.now }
+    requires parts { AreOnePart inlet.shares }
+    requires amounts { HaveCountedNone inlet.shares }
     // Each datagram that the source gave was delivered whole, for this stream, and answered, but for one by which it ended; it ended by the
     // last thing that it heard, and by a pause only where it hands back what shows that the hub was closed.
-    ensures received { HasReceived (HasTold S.told source.old source.new) (AreBrought C.rules N.given place.stream result.shares.front) (IsSome result.closed) result.taken result.refused result.shares.configured.amount result.fault }
+    ensures received { HasReceived (HasTold S.told source.old source.new)
+        (AreBrought C.rules N.given inlet.stream result.shares.front)
+        (IsSome result.closed) result.taken result.refused result.shares.configured.amount result.fault }
     ensures closed { IfSome result.closed (λ token. token.of ≡ closing_of intake.now.hub.now) }
     ensures causes { IfSome result.fault IsOfReceiver }
-    ensures fault { result.fault ≡ Some HubFault.SourceFault → HasRisen (S.failures_of source.old) (S.failures_of source.new) }
+    ensures fault { result.fault ≡ Some HubFault.SourceFault →
+        HasRisen (S.failures_of source.old) (S.failures_of source.new) }
 {
-    let Place {
+    let Inlet {
         stream,
         buffer,
         shares,
-    } = place;
+    } = inlet;
     let hub = intake.hub;
     let mut shares = shares;
     let mut buffer = buffer;
@@ -155,9 +159,11 @@ fn handed_back<'h, N: Ledgers>(
     fault: Option<HubFault>,
     closed: Option<OnceToken<'h, ()>>,
 ) -> Received<'h, N>
-    requires parts { (shares.taken.parts ≡ 1) × (shares.refused.parts ≡ 1) × (shares.configured.parts ≡ 1) }
+    requires parts { AreOnePart shares }
     requires amounts { (shares.taken.amount ≡ taken) × (shares.refused.amount ≡ refused) }
-    ensures { (result.fault ≡ fault) × (result.taken ≡ taken) × (result.refused ≡ refused) × (result.closed ≡ closed.entry) × (result.shares ≡ shares) }
+    ensures { (result.fault ≡ fault) × (result.taken ≡ taken) × (result.refused ≡ refused)
+        × (result.closed ≡ closed.entry)
+        × (result.shares ≡ shares) }
 {
     Received {
         shares,

@@ -1,5 +1,5 @@
 //! A core beside a base from which the steps since lead to it.
-ghost use Rattle.std.specs.Prelude.{◌≡◌, ◌≤◌, ◌<◌, ◌*◌, ◌∷◌, ◌++◌, ℕ, IfOk, List, OnErr, Option, Some, [], false, length, true};
+ghost use Rattle.std.specs.Prelude.{◌≡◌, ◌≤◌, ◌<◌, ◌∷◌, ◌++◌, ℕ, IfOk, List, OnErr, Some, [], false, length, true};
 ghost use Rattle.std.specs.List.{list_all};
 ghost use Rattle.pdc_core.specs.Step.{after_answer, is_allowed, ticked_of};
 ghost use Rattle.pdc_core.specs.KeptArrival.{taken_view};
@@ -7,10 +7,10 @@ ghost use Rattle.pdc_core.specs.declared.step.CoreStep.TheVariants as step;
 ghost use Rattle.pdc_life.specs.Answer.{ToArrive, ToPop, ToTick, pop_answer, tick_answer};
 ghost use Rattle.pdc_life.specs.Given.{Given};
 ghost use Rattle.pdc_life.specs.Life.{Entry, changes};
-ghost use Rattle.pdc_hub.specs.Pops.{IsPop};
+ghost use Rattle.pdc_hub.specs.Opened.{AreOpened};
+ghost use Rattle.pdc_hub.specs.Pops.{CanBeTagged, IsPop};
 ghost use Rattle.pdc_hub.specs.Replay.{Follows, HasLogged, Records, WasRead, since};
 ghost use Rattle.pdc_memory.specs.Asking.{WasRefused};
-ghost use Rattle.pdc_frame.specs.declared.tag_limits.TheConstants.{SECONDS};
 
 use crate::naming::Naming;
 use pdc_core::{Core, CoreStep, KeptArrival, Ticked};
@@ -34,7 +34,8 @@ pub struct Replayed<C: Core + Drop, N: Naming<C::Settings>> {
     pub limit: usize,
     of: PhantomData<N>,
     pub ghost named: { log.seen.book ≡ N.book },
-    pub ghost replays: { ∥ Records C.rules (WasRead C.Settings.says C.Settings.fits N.settings) N.given (C.stands_for base) (C.stands_for state) log.seen.log events.items ∥₁ },
+    pub ghost replays: { ∥ Records C.rules (WasRead C.Settings.says C.Settings.fits N.settings) N.given
+        (C.stands_for base) (C.stands_for state) log.seen.log events.items ∥₁ },
     pub ghost base_settings: { ∥ (N.settings ≡ Some (C.settings_of base)) ∥₁ },
     pub ghost state_settings: { ∥ (N.settings ≡ Some (C.settings_of state)) ∥₁ },
     pub ghost allowed: { list_all (is_allowed (C.Settings.fits (C.settings_of base))) events.items ≡ true },
@@ -50,8 +51,9 @@ impl<C: Core + Drop, N: Naming<C::Settings>> Replayed<C, N> {
     ///
     /// [`AllocError`] where a request for that room was refused.
     pub fn new(alloc: Global, base: C, state: C, limit: usize, log: Log) -> Result<Self, AllocError>
-        requires alike { (g : Given) × (N.given ≡ Some g) × C.stands_for base g [] × C.stands_for state g [] }
-        requires settings { (N.settings ≡ Some (C.settings_of base)) × (N.settings ≡ Some (C.settings_of state)) }
+        requires alike { AreOpened N.given (C.stands_for base) (C.stands_for state) }
+        requires settings { (N.settings ≡ Some (C.settings_of base))
+            × (N.settings ≡ Some (C.settings_of state)) }
         requires limit { 1 ≤ limit }
         requires log { (log.seen.book ≡ N.book) × (log.seen.log ≡ []) }
         ensures made { IfOk result (λ made. (made.base ≡ base) × (made.state ≡ state)
@@ -106,84 +108,22 @@ impl<C: Core + Drop, N: Naming<C::Settings>> Replayed<C, N> {
         bytes: &[u8],
         taken: KeptArrival,
     ) -> Outcome
-        requires read { WasRead C.Settings.says C.Settings.fits N.settings stream bytes.now (taken_view taken) }
+        requires read { WasRead C.Settings.says C.Settings.fits N.settings stream bytes.now
+            (taken_view taken) }
         ensures answer { (g : Given) (E : List Entry) → C.stands_for self.old.state g E →
             result ≡ (C.rules g E stream (taken_view taken)).outcome }
-        ensures stands { C.Settings.says (C.settings_of self.old.state) stream bytes.now (taken_view taken) →
+        ensures stands { C.Settings.says (C.settings_of self.old.state) stream bytes.now
+            (taken_view taken) →
             Follows C.rules (C.stands_for self.old.state) (C.stands_for self.new.state) (ToArrive stream bytes.now (taken_view taken)) }
         ensures logged { HasLogged (ToArrive stream bytes.now (taken_view taken))
             self.old.log.seen.log self.new.log.seen.log front.old front.new }
         ensures counts { C.counts_of self.new.state ≡ after_answer result (C.counts_of self.old.state) }
         ensures popped { C.popped_of self.new.state ≡ C.popped_of self.old.state }
-        ensures event { self.new.events.items ≡ since self.old.limit self.old.events.items ++ step.Arrive stream taken ∷ [] }
+        ensures event { self.new.events.items ≡ since self.old.limit self.old.events.items ++
+            step.Arrive stream taken ∷ [] }
         ensures limit { self.new.limit ≡ self.old.limit }
     {
         self.bring_up();
-        self.add_arrival(rt, front, stream, bytes, taken)
-    }
-
-    /// Ticks, and keeps the step. Where the list is full, the base is brought up first.
-    pub fn tick<R: Wait>(
-        &mut self,
-        rt: &R,
-        front: &mut Front<N>,
-        now: u64,
-        counts: &[u16; MAX_PMUS],
-    ) -> Ticked
-        ensures answer { (g : Given) (E : List Entry) → C.stands_for self.old.state g E →
-            result ≡ ticked_of (changes E) (tick_answer g E now counts.now) }
-        ensures stands { Follows C.rules (C.stands_for self.old.state) (C.stands_for self.new.state) (ToTick now counts.now) }
-        ensures logged { HasLogged (ToTick now counts.now) self.old.log.seen.log self.new.log.seen.log front.old front.new }
-        ensures counts { C.counts_of self.new.state ≡ C.counts_of self.old.state }
-        ensures popped { C.popped_of self.new.state ≡ C.popped_of self.old.state }
-        ensures event { self.new.events.items ≡ since self.old.limit self.old.events.items ++ step.Tick now counts.now ∷ [] }
-        ensures limit { self.new.limit ≡ self.old.limit }
-    {
-        self.bring_up();
-        self.add_tick(rt, front, now, counts)
-    }
-
-    /// Pops a row, which is written over this one, and keeps the step. Whether there was one; else the row stays. Where the list is full, the
-    /// base is brought up first.
-    pub fn pop_into<R: Wait>(&mut self, rt: &R, front: &mut Front<N>, row: &mut DueRow) -> bool
-        ensures answer { (g : Given) (E : List Entry) → C.stands_for self.old.state g E → IsPop result row.new (pop_answer E) }
-        ensures stands { Follows C.rules (C.stands_for self.old.state) (C.stands_for self.new.state) ToPop }
-        ensures logged { HasLogged ToPop self.old.log.seen.log self.new.log.seen.log front.old front.new }
-        ensures rises { result ≡ true → C.popped_of self.old.state < row.new.instant }
-        ensures tagged { result ≡ true → (g : Given) → N.given ≡ Some g → row.new.instant < SECONDS * g.output.rate }
-        ensures popped { (result ≡ true → C.popped_of self.new.state ≡ row.new.instant)
-            × (result ≡ false → C.popped_of self.new.state ≡ C.popped_of self.old.state) }
-        ensures none { result ≡ false → row.new ≡ row.old }
-        ensures counts { C.counts_of self.new.state ≡ C.counts_of self.old.state }
-        ensures event { self.new.events.items ≡ since self.old.limit self.old.events.items ++ step.Pop ∷ [] }
-        ensures limit { self.new.limit ≡ self.old.limit }
-    {
-        self.bring_up();
-        self.add_pop(rt, front, row)
-    }
-
-    /// Answers what arrived, and keeps the step, for which there is a place below the limit.
-    fn add_arrival<R: Wait>(
-        &mut self,
-        rt: &R,
-        front: &mut Front<N>,
-        stream: usize,
-        bytes: &[u8],
-        taken: KeptArrival,
-    ) -> Outcome
-        requires read { WasRead C.Settings.says C.Settings.fits N.settings stream bytes.now (taken_view taken) }
-        requires room { length self.old.events.items < self.old.limit }
-        ensures answer { (g : Given) (E : List Entry) → C.stands_for self.old.state g E →
-            result ≡ (C.rules g E stream (taken_view taken)).outcome }
-        ensures stands { C.Settings.says (C.settings_of self.old.state) stream bytes.now (taken_view taken) →
-            Follows C.rules (C.stands_for self.old.state) (C.stands_for self.new.state) (ToArrive stream bytes.now (taken_view taken)) }
-        ensures logged { HasLogged (ToArrive stream bytes.now (taken_view taken))
-            self.old.log.seen.log self.new.log.seen.log front.old front.new }
-        ensures counts { C.counts_of self.new.state ≡ after_answer result (C.counts_of self.old.state) }
-        ensures popped { C.popped_of self.new.state ≡ C.popped_of self.old.state }
-        ensures event { self.new.events.items ≡ self.old.events.items ++ step.Arrive stream taken ∷ [] }
-        ensures limit { self.new.limit ≡ self.old.limit }
-    {
         let Replayed {
             log,
             events,
@@ -204,24 +144,27 @@ impl<C: Core + Drop, N: Naming<C::Settings>> Replayed<C, N> {
         outcome
     }
 
-    /// Ticks, and keeps the step, for which there is a place below the limit.
-    fn add_tick<R: Wait>(
+    /// Ticks, and keeps the step. Where the list is full, the base is brought up first.
+    pub fn tick<R: Wait>(
         &mut self,
         rt: &R,
         front: &mut Front<N>,
         now: u64,
         counts: &[u16; MAX_PMUS],
     ) -> Ticked
-        requires room { length self.old.events.items < self.old.limit }
         ensures answer { (g : Given) (E : List Entry) → C.stands_for self.old.state g E →
             result ≡ ticked_of (changes E) (tick_answer g E now counts.now) }
-        ensures stands { Follows C.rules (C.stands_for self.old.state) (C.stands_for self.new.state) (ToTick now counts.now) }
-        ensures logged { HasLogged (ToTick now counts.now) self.old.log.seen.log self.new.log.seen.log front.old front.new }
+        ensures stands { Follows C.rules (C.stands_for self.old.state) (C.stands_for self.new.state)
+            (ToTick now counts.now) }
+        ensures logged { HasLogged (ToTick now counts.now) self.old.log.seen.log
+            self.new.log.seen.log front.old front.new }
         ensures counts { C.counts_of self.new.state ≡ C.counts_of self.old.state }
         ensures popped { C.popped_of self.new.state ≡ C.popped_of self.old.state }
-        ensures event { self.new.events.items ≡ self.old.events.items ++ step.Tick now counts.now ∷ [] }
+        ensures event { self.new.events.items ≡ since self.old.limit self.old.events.items ++
+            step.Tick now counts.now ∷ [] }
         ensures limit { self.new.limit ≡ self.old.limit }
     {
+        self.bring_up();
         let Replayed {
             log,
             events,
@@ -237,21 +180,25 @@ impl<C: Core + Drop, N: Naming<C::Settings>> Replayed<C, N> {
         ticked
     }
 
-    /// Pops a row into this one, and keeps the step, for which there is a place below the limit.
-    fn add_pop<R: Wait>(&mut self, rt: &R, front: &mut Front<N>, row: &mut DueRow) -> bool
-        requires room { length self.old.events.items < self.old.limit }
-        ensures answer { (g : Given) (E : List Entry) → C.stands_for self.old.state g E → IsPop result row.new (pop_answer E) }
-        ensures stands { Follows C.rules (C.stands_for self.old.state) (C.stands_for self.new.state) ToPop }
+    /// Pops a row, which is written over this one, and keeps the step. Whether there was one; else the row stays. Where the list is full, the
+    /// base is brought up first.
+    pub fn pop_into<R: Wait>(&mut self, rt: &R, front: &mut Front<N>, row: &mut DueRow) -> bool
+        ensures answer { (g : Given) (E : List Entry) → C.stands_for self.old.state g E →
+            IsPop result row.new (pop_answer E) }
+        ensures stands { Follows C.rules (C.stands_for self.old.state)
+            (C.stands_for self.new.state) ToPop }
         ensures logged { HasLogged ToPop self.old.log.seen.log self.new.log.seen.log front.old front.new }
         ensures rises { result ≡ true → C.popped_of self.old.state < row.new.instant }
-        ensures tagged { result ≡ true → (g : Given) → N.given ≡ Some g → row.new.instant < SECONDS * g.output.rate }
+        ensures tagged { result ≡ true → CanBeTagged N.given row.new }
         ensures popped { (result ≡ true → C.popped_of self.new.state ≡ row.new.instant)
             × (result ≡ false → C.popped_of self.new.state ≡ C.popped_of self.old.state) }
         ensures none { result ≡ false → row.new ≡ row.old }
         ensures counts { C.counts_of self.new.state ≡ C.counts_of self.old.state }
-        ensures event { self.new.events.items ≡ self.old.events.items ++ step.Pop ∷ [] }
+        ensures event { self.new.events.items ≡ since self.old.limit self.old.events.items ++
+            step.Pop ∷ [] }
         ensures limit { self.new.limit ≡ self.old.limit }
     {
+        self.bring_up();
         let Replayed {
             log,
             events,
@@ -268,8 +215,10 @@ impl<C: Core + Drop, N: Naming<C::Settings>> Replayed<C, N> {
 /// Answers what was kept.
 fn answered<C: Core>(state: &mut C, stream: usize, taken: &KeptArrival) -> Outcome
     requires { C.Settings.fits (C.settings_of state.old) stream (taken_view taken.now) ≡ true }
-    ensures answer { (g : Given) (E : List Entry) → C.stands_for state.old g E → result ≡ (C.rules g E stream (taken_view taken.now)).outcome }
-    ensures stands { (bytes : List ℕ) → C.Settings.says (C.settings_of state.old) stream bytes (taken_view taken.now) →
+    ensures answer { (g : Given) (E : List Entry) → C.stands_for state.old g E →
+        result ≡ (C.rules g E stream (taken_view taken.now)).outcome }
+    ensures stands { (bytes : List ℕ) → C.Settings.says (C.settings_of state.old) stream bytes
+        (taken_view taken.now) →
         Follows C.rules (C.stands_for state.old) (C.stands_for state.new) (ToArrive stream bytes (taken_view taken.now)) }
     ensures counts { C.counts_of state.new ≡ after_answer result (C.counts_of state.old) }
     ensures popped { C.popped_of state.new ≡ C.popped_of state.old }

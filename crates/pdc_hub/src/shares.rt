@@ -1,4 +1,4 @@
-//! What a recorder counts, as tokens: they take no bytes.
+//! What a hub counts, as tokens: they take no bytes.
 ghost use Rattle.std.specs.Prelude.{◌≡◌, []};
 
 use crate::ledgers::{ConfiguredIn, Ledgers, RefusedIn, TakenIn, TopIn, TurnsIn};
@@ -53,7 +53,9 @@ pub struct Blanks {
 impl Blanks {
     /// Ledgers of which nothing is counted, those of the three totals with so many parts, the others with one; and a log with no step.
     pub fn new(parts: u64) -> Blanks
-        ensures parts { (result.taken.parts ≡ parts) × (result.refused.parts ≡ parts) × (result.configured.parts ≡ parts) × (result.top.parts ≡ 1) × (result.turns.parts ≡ 1) }
+        ensures parts { (result.taken.parts ≡ parts) × (result.refused.parts ≡ parts)
+            × (result.configured.parts ≡ parts)
+            × (result.top.parts ≡ 1) × (result.turns.parts ≡ 1) }
         ensures log { result.log.seen.log ≡ [] }
     {
         Blanks {

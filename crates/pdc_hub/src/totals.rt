@@ -43,7 +43,8 @@ impl Totals {
     /// Counts an answer.
     pub fn count(&mut self, outcome: Outcome)
         requires { is_used_up self.old.taken self.old.refused self.old.configured ≡ false }
-        ensures { (self.new.taken ≡ self.old.taken + taken_by outcome) × (self.new.refused ≡ self.old.refused + refused_by outcome)
+        ensures { (self.new.taken ≡ self.old.taken + taken_by outcome)
+            × (self.new.refused ≡ self.old.refused + refused_by outcome)
             × (self.new.configured ≡ self.old.configured + configured_by outcome) }
     {
         match outcome {

@@ -20,7 +20,7 @@ pub use laws::runs_keep_headline;
 pub use outside::{Beside, Outside};
 pub use pdc_aligner::{Aligned, Aligner, Pace, align, tick_cleared};
 pub use pdc_hub::{
-    Blanks, Hub, HubFault, Intake, Ledgers, Naming, Place, Pops, Received, Shares, TopIn, receive,
+    Blanks, Hub, HubFault, Inlet, Intake, Ledgers, Naming, Pops, Received, Shares, TopIn, receive,
 };
 pub use pdc_pipe::{
     CAPACITY, Ended, InOrder, LayoutFrame, Log, Message, Outlet, Receiver, Sender, send_out,

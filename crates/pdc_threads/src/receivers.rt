@@ -7,7 +7,7 @@ ghost use Rattle.pdc_threads.specs.Ended.{AreFor, HasEndedAs, HaveJoined, ending
 
 use pdc_core::Core;
 use pdc_frame::MAX_SIZE;
-use pdc_hub::{HubFault, Intake, Ledgers, Naming, Place, Received, Shares, receive};
+use pdc_hub::{HubFault, Inlet, Intake, Ledgers, Naming, Received, Shares, receive};
 use pdc_life::MAX_PMUS;
 use pdc_ports::Source;
 use std::alloc::{AllocError, Global};
@@ -122,7 +122,7 @@ where
             continue;
         }
         let Input { source, buffer } = input;
-        let place = Place {
+        let place = Inlet {
             stream,
             buffer,
             shares: split_one(shares),
@@ -173,7 +173,7 @@ fn receive_owned<C: Core + Drop, N: Naming<C::Settings>, S: Source + Drop, R: Wa
     alloc: Global,
     intake: &Intake<'_, C, N>,
     source: S,
-    place: Place<N>,
+    place: Inlet<N>,
 ) -> Delivered<N>
     requires settings { N.settings ≡ Some intake.now.settings.now }
     requires stream { place.stream < C.Settings.streams intake.now.settings.now }

@@ -16,12 +16,12 @@ use Rattle.pdc_aligner.proofs.aligner.align.Goals as goal
 pub returns-then-not-close-clause-rising : goal.returns-then-not-close-clause-rising
 returns-then-not-close-clause-rising g c =
     let same : put_by c.close.new.writer ≡ put_by c.turns-done.new.aligner.writer = search rules in
-    rw same (rises_on _ _ _ _ c.turns-done.ensures.rising c.turns-done.ensures.stored)
+    rw same (rises_on _ _ _ _ c.turns-done.ensures.rising c.turns-done.new.aligner.publisher.covered)
 
 pub returns-clause-rising : goal.returns-clause-rising
 returns-clause-rising g c =
     let more : put_by c.close.new.writer ≡ put_by c.turns-done.new.aligner.writer ++ End ∷ [] = search rules in
-    rw (put_end _ _ more) (rises_on _ _ _ _ c.turns-done.ensures.rising c.turns-done.ensures.stored)
+    rw (put_end _ _ more) (rises_on _ _ _ _ c.turns-done.ensures.rising c.turns-done.new.aligner.publisher.covered)
 
 pub returns-clause-published : goal.returns-clause-published
 returns-clause-published g c =

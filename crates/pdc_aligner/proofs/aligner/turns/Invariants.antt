@@ -1,4 +1,4 @@
-use Rattle.std.proofs.Common.{◌≡◌, ◌≤◌, ◌<◌, ◌+◌, length}
+use Rattle.std.proofs.Common.{◌≡◌, ◌<◌, ◌+◌, length}
 use Rattle.pdc_hub.specs.Pops.{popped_by}
 use Rattle.pdc_pipe.specs.Writing.{IsOpen, put_by}
 use Rattle.pdc_log.specs.Log.{ticks_of}
@@ -15,7 +15,6 @@ abbrev pub invariant-loop : goal.invariant-loop
 invariant-loop g l =
     (l.aligner.writer.to ≡ l.initial.aligner.writer.to) × IsOpen l.aligner.writer
     × (l.aligner.pops.top.parts ≡ l.initial.aligner.pops.top.parts) × (last_in l.aligner.publisher ≡ l.aligner.pops.top.amount)
-    × (last_in l.aligner.publisher ≤ (g.M.Mark.stored (mark_in l.aligner.publisher)).floor)
     × (output_in l.aligner.publisher ≡ output_in l.initial.aligner.publisher)
     × (popped_by l.aligner.pops ≡ l.first + length (instants_of (put_by l.aligner.writer)))
     × Rises (last_in l.initial.aligner.publisher) (instants_of (put_by l.aligner.writer)) (last_in l.aligner.publisher)

@@ -1,4 +1,4 @@
-use Rattle.std.proofs.Common.{◌≡◌, ◌≤◌, ◌+◌, Bool, List, ℕ, length}
+use Rattle.std.proofs.Common.{◌≡◌, ◌+◌, Bool, List, ℕ, length}
 use Rattle.pdc_hub.specs.Pops.{popped_by}
 use Rattle.pdc_pipe.specs.Writing.{IsOpen, put_by}
 use Rattle.pdc_aligner.specs.Device.{standing_of}
@@ -13,7 +13,6 @@ abbrev pub invariant-loop : goal.invariant-loop
 invariant-loop g l =
     (l.writer.to ≡ l.initial.writer.to) × IsOpen l.writer
     × (l.pops.top.parts ≡ l.initial.pops.top.parts) × (last_in l.publisher ≡ l.pops.top.amount)
-    × (last_in l.publisher ≤ (g.M.Mark.stored (mark_in l.publisher)).floor)
     × (output_in l.publisher ≡ output_in l.initial.publisher)
     × (popped_by l.pops + length (instants_of (put_by l.initial.writer)) ≡ popped_by l.initial.pops + length (instants_of (put_by l.writer)))
     × ((low : ℕ) → Rises low (instants_of (put_by l.initial.writer)) (last_in l.initial.publisher) → Rises low (instants_of (put_by l.writer)) (last_in l.publisher))

@@ -6,14 +6,14 @@ use Rattle.pdc_aligner.proofs.Sequences.{rises_on, rises_put, put_data}
 use Rattle.pdc_aligner.proofs.publishing.publish_one.Goals as goal
 
 pub returns-then-not-put-clause-rising : goal.returns-then-not-put-clause-rising
-returns-then-not-put-clause-rising g c low r =
+returns-then-not-put-clause-rising g c = λ low r.
     let same : put_by c.put.new.writer ≡ put_by c.args.writer.now = search (rules, c.put.ensures.not, c.if-not-put.true) in
     let last : last_in c.publish_into.new.self ≡ c.args.row.now.instant = search (rules, c.publish_into.ensures.last) in
     let below : last_in c.args.publisher.now ≤ last_in c.publish_into.new.self = omega (arith, last, c.requires.above) in
     rw same (rises_on low _ _ _ r below)
 
 pub returns-clause-rising : goal.returns-clause-rising
-returns-clause-rising g c low r =
+returns-clause-rising g c = λ low r.
     let more : put_by c.put.new.writer ≡ put_by c.args.writer.now ++ Data c.publish_into.new.frame ∷ [] = search (rules, c.put.ensures.put, c.if-not-put.false) in
     let at : c.args.row.now.instant ≡ c.publish_into.new.frame.instant = search (rules, c.publish_into.ensures.ok) in
     let last : last_in c.publish_into.new.self ≡ c.args.row.now.instant = search (rules, c.publish_into.ensures.last) in

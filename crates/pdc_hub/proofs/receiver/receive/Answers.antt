@@ -14,18 +14,21 @@ loop-init g c = (
   search rules,
   search rules,
   search rules,
-  receiving_begins g.S.Source.told c.args.source.now g.C.Core.rules g.N.Naming.given c.args.place.stream c.args.place.shares.front c.args.place.shares.configured.amount (search rules),
+  receiving_begins g.S.Source.told c.args.source.now g.C.Core.rules g.N.Naming.given c.args.inlet.stream c.args.inlet.shares.front c.args.inlet.shares.configured.amount (search rules),
 )
 
 pub loop-preserved-in-Ok : goal.loop-preserved-in-Ok
 loop-preserved-in-Ok g c =
     let bytes : List ℕ = take c.in-Datagram.len c.next-in-loop.new.buffer in
     let same : c.deref.result.now ≡ c.next-in-loop.new.buffer = left_whole _ _ _ _ c.deref.ensures.value (search rules) in
-    let answer : WasBrought g.C.Core.rules g.N.Naming.given c.args.place.stream bytes c.loop.shares.front c.hand_in.new.shares.front c.in-Ok.answer.answer =
-    subst (λ (buffer : List ℕ). WasBrought g.C.Core.rules g.N.Naming.given c.args.place.stream (take c.in-Datagram.len buffer) c.loop.shares.front c.hand_in.new.shares.front c.in-Ok.answer.answer) same c.in-Ok.ensures.answer in
+    let answer : WasBrought g.C.Core.rules g.N.Naming.given c.args.inlet.stream bytes c.loop.shares.front c.hand_in.new.shares.front c.in-Ok.answer.answer =
+    subst (λ (buffer : List ℕ). WasBrought g.C.Core.rules g.N.Naming.given c.args.inlet.stream (take c.in-Datagram.len buffer) c.loop.shares.front c.hand_in.new.shares.front c.in-Ok.answer.answer) same c.in-Ok.ensures.answer in
+    let counted = c.in-Ok.ensures.counted in
+    let more_taken : c.hand_in.new.shares.taken.amount ≡ c.loop.shares.taken.amount + taken_by c.in-Ok.answer.answer = counted.0 in
+    let more_refused : c.hand_in.new.shares.refused.amount ≡ c.loop.shares.refused.amount + refused_by c.in-Ok.answer.answer = counted.1 in
     let taken : c.match-answer.taken ≡ c.loop.taken + taken_by c.in-Ok.answer.answer = search (rules, c.match-answer.branch) in
     let refused : c.match-answer.refused ≡ c.loop.refused + refused_by c.in-Ok.answer.answer = search (rules, c.match-answer.branch) in
-    let configured : c.hand_in.new.shares.configured.amount ≡ c.loop.shares.configured.amount + configured_by c.in-Ok.answer.answer = c.in-Ok.ensures.configured in
+    let configured : c.hand_in.new.shares.configured.amount ≡ c.loop.shares.configured.amount + configured_by c.in-Ok.answer.answer = counted.2 in
     let told : (hs : List Heard) → g.S.Source.told c.loop.source hs → g.S.Source.told c.tell_whole.new.source (hs ++ Gave bytes ∷ []) = λ hs t. c.tell_whole.ensures.tells _ (c.answered.ensures.tells _ (c.in-Datagram.ensures.tells hs t)) in (
       search rules,
       search rules,
@@ -33,7 +36,7 @@ loop-preserved-in-Ok g c =
       search rules,
       search rules,
       search rules,
-      receiving_on g.S.Source.told c.args.source.now c.loop.source c.tell_whole.new.source g.C.Core.rules g.N.Naming.given c.args.place.stream c.loop.shares.front c.hand_in.new.shares.front c.loop.taken c.loop.refused c.loop.shares.configured.amount c.match-answer.taken c.match-answer.refused c.hand_in.new.shares.configured.amount bytes c.in-Ok.answer.answer
+      receiving_on g.S.Source.told c.args.source.now c.loop.source c.tell_whole.new.source g.C.Core.rules g.N.Naming.given c.args.inlet.stream c.loop.shares.front c.hand_in.new.shares.front c.loop.taken c.loop.refused c.loop.shares.configured.amount c.match-answer.taken c.match-answer.refused c.hand_in.new.shares.configured.amount bytes c.in-Ok.answer.answer
           c.loop.invariant.6 told answer taken refused configured,
     )
 
@@ -41,7 +44,7 @@ pub returns-in-Err-clause-received : goal.returns-in-Err-clause-received
 returns-in-Err-clause-received g c =
     let h = received g.S.Source.told c.args.source.now c.loop.source c.answered-in-Err.new.self _ c.loop.taken c.loop.refused c.loop.shares.configured.amount (Gave (take c.in-Datagram.len c.next-in-loop.new.buffer)) (Some c.in-Err.fault)
     c.loop.invariant.6 (λ hs t. c.answered-in-Err.ensures.tells _ (c.in-Datagram.ensures.tells hs t)) c.in-Err.ensures.causes in
-    rw (c.handed_back.ensures.0, c.handed_back.ensures.1, c.handed_back.ensures.2, c.handed_back.ensures.4, c.in-Err.ensures.err.2, c.in-Err.ensures.err.3) h
+    rw (c.handed_back.ensures.0, c.handed_back.ensures.1, c.handed_back.ensures.2, c.handed_back.ensures.4, c.in-Err.ensures.err.0.2, c.in-Err.ensures.err.1) h
 
 pub loop-preserved : goal.loop-preserved
 loop-preserved g c = (

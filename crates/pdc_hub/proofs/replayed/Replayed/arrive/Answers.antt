@@ -4,15 +4,15 @@ use Rattle.pdc_core.specs.KeptArrival.{taken_view}
 use Rattle.pdc_core.specs.declared.step.CoreStep.TheVariants as step
 use Rattle.pdc_hub.proofs.Held.{arrived, still, suits}
 use Rattle.pdc_hub.proofs.Replays.{all_more}
-use Rattle.pdc_hub.proofs.replayed.Replayed.add_arrival.Goals as goal
+use Rattle.pdc_hub.proofs.replayed.Replayed.arrive.Goals as goal
 
 pub answered-outcome-requires : goal.answered-outcome-requires
 answered-outcome-requires g c =
-    suits g.C.Settings.Reads.says g.C.Settings.Reads.fits g.N.Naming.settings c.args.stream c.args.bytes.now (taken_view c.args.taken) (g.C.Core.settings_of c.args.self.now.state) c.requires.read c.args.self.now.state_settings
+    suits g.C.Settings.Reads.says g.C.Settings.Reads.fits g.N.Naming.settings c.args.stream c.args.bytes.now (taken_view c.args.taken) (g.C.Core.settings_of c.bring_up.new.self.state) c.requires.read c.bring_up.new.self.state_settings
 
 pub invariant_of-self : goal.invariant_of-self
 invariant_of-self g c =
-    let old = c.args.self.now in
+    let old = c.bring_up.new.self in
     let more : c.push.new.self.items ≡ old.events.items ++ step.Arrive c.args.stream c.args.taken ∷ [] = c.push.ensures.items in
     record {
       named = c.add.ensures.named;

@@ -2,7 +2,7 @@ use Rattle.std.proofs.Common.{rules, arith, ◌∙◌, refl, sym, ap}
 use Rattle.pdc_life.specs.Answer.{ToTick}
 use Rattle.pdc_hub.specs.Replay.{WasRead}
 use Rattle.pdc_hub.proofs.Replays.{came_same, has_turned, turned_more}
-use Rattle.pdc_hub.proofs.recorder.Recorder.tick.Goals as goal
+use Rattle.pdc_hub.proofs.locked_core.LockedCore.tick.Goals as goal
 
 pub invariant_of-self-clause-came_are : goal.invariant_of-self-clause-came_are
 invariant_of-self-clause-came_are g c =

@@ -6,11 +6,11 @@ use Rattle.pdc_life.specs.Answer.{ToPop}
 use Rattle.pdc_hub.specs.Replay.{WasRead}
 use Rattle.pdc_hub.proofs.Held.{still, tagged}
 use Rattle.pdc_hub.proofs.Replays.{all_more, grown}
-use Rattle.pdc_hub.proofs.replayed.Replayed.add_pop.Goals as goal
+use Rattle.pdc_hub.proofs.replayed.Replayed.pop_into.Goals as goal
 
 pub invariant_of-self : goal.invariant_of-self
 invariant_of-self g c =
-    let old = c.args.self.now in
+    let old = c.bring_up.new.self in
     let more : c.push.new.self.items ≡ old.events.items ++ step.Pop ∷ [] = c.push.ensures.items in
     record {
       named = c.add.ensures.named;
@@ -25,5 +25,5 @@ invariant_of-self g c =
 
 pub returns-clause-tagged : goal.returns-clause-tagged
 returns-clause-tagged g c is =
-    let old = c.args.self.now in
+    let old = c.bring_up.new.self in
     tagged g.C.Core.rules (WasRead g.C.Settings.Reads.says g.C.Settings.Reads.fits g.N.Naming.settings) g.N.Naming.given (g.C.Core.stands_for old.base) (g.C.Core.stands_for old.state) old.log.seen.log old.events.items c.pop_into-is_some.new.row old.replays (λ h E s. search (rules, is, c.pop_into-is_some.ensures.next h E s))

@@ -2,7 +2,7 @@ use Rattle.std.proofs.Common.{rules, ◌≡◌, ◌++◌}
 use Rattle.pdc_life.specs.Published.{layout_wire}
 use Rattle.pdc_hub.specs.Replay.{WasRead}
 use Rattle.pdc_hub.proofs.Replays.{told_now}
-use Rattle.pdc_hub.proofs.recorder.Recorder.layout.Goals as goal
+use Rattle.pdc_hub.proofs.locked_core.LockedCore.layout.Goals as goal
 
 pub returns-in-Ok-clause-layout : goal.returns-in-Ok-clause-layout
 returns-in-Ok-clause-layout g c =

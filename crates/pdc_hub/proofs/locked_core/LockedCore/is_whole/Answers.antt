@@ -2,7 +2,7 @@ use Rattle.std.proofs.Common.{◌≡◌}
 use Rattle.pdc_life.specs.Row.{is_whole}
 use Rattle.pdc_hub.specs.Replay.{WasRead}
 use Rattle.pdc_hub.proofs.Replays.{told_now}
-use Rattle.pdc_hub.proofs.recorder.Recorder.is_whole.Goals as goal
+use Rattle.pdc_hub.proofs.locked_core.LockedCore.is_whole.Goals as goal
 
 pub returns-clause-whole : goal.returns-clause-whole
 returns-clause-whole g c =

@@ -1,7 +1,7 @@
 use Rattle.std.proofs.Common.{rules}
 use Rattle.pdc_hub.specs.Replay.{WasRead}
 use Rattle.pdc_hub.proofs.Replays.{all_said}
-use Rattle.pdc_hub.proofs.recorder.Recorder.totals.Goals as goal
+use Rattle.pdc_hub.proofs.locked_core.LockedCore.look.Goals as goal
 
 pub returns-clause-said : goal.returns-clause-said
 returns-clause-said g c =

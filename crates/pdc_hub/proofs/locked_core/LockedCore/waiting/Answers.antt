@@ -2,7 +2,7 @@ use Rattle.std.proofs.Common.{rules, ◌≡◌}
 use Rattle.pdc_life.specs.Answer.{waiting_counts}
 use Rattle.pdc_hub.specs.Replay.{WasRead}
 use Rattle.pdc_hub.proofs.Replays.{told_now}
-use Rattle.pdc_hub.proofs.recorder.Recorder.waiting.Goals as goal
+use Rattle.pdc_hub.proofs.locked_core.LockedCore.waiting.Goals as goal
 
 pub returns-clause-waits : goal.returns-clause-waits
 returns-clause-waits g c =

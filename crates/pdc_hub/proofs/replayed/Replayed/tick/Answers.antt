@@ -6,11 +6,11 @@ use Rattle.pdc_life.specs.Answer.{ToTick}
 use Rattle.pdc_hub.specs.Replay.{WasRead}
 use Rattle.pdc_hub.proofs.Held.{still}
 use Rattle.pdc_hub.proofs.Replays.{all_more, grown}
-use Rattle.pdc_hub.proofs.replayed.Replayed.add_tick.Goals as goal
+use Rattle.pdc_hub.proofs.replayed.Replayed.tick.Goals as goal
 
 pub invariant_of-self : goal.invariant_of-self
 invariant_of-self g c =
-    let old = c.args.self.now in
+    let old = c.bring_up.new.self in
     let more : c.push.new.self.items ≡ old.events.items ++ step.Tick c.args.now c.args.counts.now ∷ [] = c.push.ensures.items in
     record {
       named = c.add.ensures.named;

@@ -1,6 +1,6 @@
 use Rattle.std.proofs.Common.{arith}
 use Rattle.pdc_hub.proofs.Replays.{looked}
-use Rattle.pdc_hub.proofs.recorder.Recorder.show.Goals as goal
+use Rattle.pdc_hub.proofs.locked_core.LockedCore.show.Goals as goal
 
 pub returns-clause-looked : goal.returns-clause-looked
 returns-clause-looked g c =
