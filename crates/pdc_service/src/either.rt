@@ -1,10 +1,9 @@
 //! Runs of a node or the merger, whichever its settings describe.
 ghost use Rattle.std.specs.Prelude.{◌≡◌, IfOk, vec_len};
-ghost use Rattle.pdc_service.specs.Ended.{IsOver, begun_standing};
+ghost use Rattle.pdc_service.specs.Ended.{IsOver};
+ghost use Rattle.pdc_service.specs.Running.{found_begun};
 ghost use Rattle.pdc_service.specs.Summed.{AreSums, HaveEach};
-ghost use Rattle.pdc_startup.specs.Begun.{begun_mark};
 ghost use Rattle.pdc_startup.specs.Concentrator.{streams_of};
-ghost use Rattle.pdc_threads.specs.OneRun.{found_by};
 ghost use Rattle.pdc_threads.specs.Run.{GivesFrom};
 
 use crate::handed::Handed;
@@ -27,8 +26,10 @@ pub fn run_concentrator<W: Outside, R: Threads + Wait + Sync>(
     ensures totals { IfOk result AreSums }
     ensures each { IfOk result (HaveEach (streams_of concentrator.now)) }
     // It is over as `run_node` and `run_merger` say, with what became of the sink and the mark.
-    ensures over { IsOver concentrator.now plan.now.layout_every W.Source.told (GivesFrom W.Ticker.gave handed.ticker) (W.Sink.took handed.sink) W.Sink.failures_of
-        (found_by (W.Mark.stored (begun_mark handed.mark)) (begun_standing (W.Mark.is_broken (begun_mark handed.mark)) (W.Mark.failures (begun_mark handed.mark))) (W.Sink.failures_of handed.sink)) handed.sources.items result }
+    ensures over { IsOver concentrator.now plan.now.layout_every
+        W.Source.told (GivesFrom W.Ticker.gave handed.ticker) (W.Sink.took handed.sink) W.Sink.failures_of
+        (found_begun W.Mark.stored W.Mark.is_broken W.Mark.failures handed.mark (W.Sink.failures_of handed.sink))
+        handed.sources.items result }
 {
     match concentrator {
         Concentrator::Node(settings) => {
