@@ -5,7 +5,6 @@ ghost use Rattle.pdc_startup.specs.declared.concentrator.Concentrator.{Concentra
 ghost use Rattle.pdc_startup.specs.Concentrator.{streams_of};
 
 use crate::either::run_concentrator;
-use crate::handed::hand_over;
 use crate::porter::JournalPorter;
 use crate::run_texts::unsent_text;
 use pdc_journal::{AnnouncingSink, CountingSink, Journal, Reporting, RunCounters};
@@ -229,8 +228,7 @@ fn run_observed<
     let sink = CountingSink::new(sink, &signs.unsent);
     let sink = RememberingSink::new(rt, alloc, recent, output, &signs.unsent, sink);
     let mark = mark.timed(rt, &observed.stores);
-    let handed = hand_over(mark, sources, ticker, sink);
-    let outcome = run_concentrator(rt, alloc, concentrator, &plan, handed);
+    let outcome = run_concentrator(rt, alloc, concentrator, &plan, mark, sources, ticker, sink);
     let unsent = signs.unsent.load(Ordering::Relaxed);
     if unsent > 0 {
         journal.tell(rt, unsent_text(alloc, unsent));

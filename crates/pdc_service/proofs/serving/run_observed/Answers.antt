@@ -14,18 +14,18 @@ returns-in_default g c = record { totals = tt; each = tt; faults = tt; handed = 
 
 pub returns : goal.returns
 returns g c =
-    let handed = c.hand_over-handed.result in
+    let last = c.new-sink-3.result in
     let outcome = c.run_concentrator-outcome.result in
     let ended = c.run_concentrator-outcome.ensures in
     let answer = c.answer.result in
     let late = c.load-is_unreadable.result in
     let e = sym c.answer.ensures in
     let ok = subst (λ (r : Result Totals ServiceFault). IfOk r (λ totals. outcome ≡ Ok totals)) e (answered_ok outcome late) in
-    let sink : handed.sink.inner.inner.inner ≡ c.args.opened.sink = rw (c.hand_over-handed.ensures.3, c.new-sink-3.ensures, c.new-sink-2.ensures.0, c.new-sink.ensures) refl in
-    let mark : g.M.Mark.stored (begun_mark handed.mark).inner ≡ g.M.Mark.stored (begun_mark c.args.opened.mark) = rw (c.hand_over-handed.ensures.0, c.timed-mark.ensures) refl in
+    let sink : last.inner.inner.inner ≡ c.args.opened.sink = rw (c.new-sink-3.ensures, c.new-sink-2.ensures.0, c.new-sink.ensures) refl in
+    let mark : g.M.Mark.stored (begun_mark c.timed-mark.result).inner ≡ g.M.Mark.stored (begun_mark c.args.opened.mark) = rw c.timed-mark.ensures refl in
     record {
       totals = of_ok AreSums outcome answer ok ended.totals;
       each = of_ok (HaveEach (streams_of c.args.serving.now.concentrator.now)) outcome answer ok ended.each;
       faults = subst (λ (r : Result Totals ServiceFault). IfErr r IsOfRun) e (answered_err outcome late);
-      handed = handed_by sink mark (over_handed g.K.Sink.took handed.sink.inner.inner.inner (λ left. left.inner.inner.inner) (λ left. left.inner.refused) answer ok ended.over);
+      handed = handed_by sink mark (over_handed g.K.Sink.took last.inner.inner.inner (λ left. left.inner.inner.inner) (λ left. left.inner.refused) answer ok ended.over);
     }
