@@ -172,9 +172,6 @@ where
             requires ready { IsReady intake.now manned }
             requires ends { receives_on from.now ≡ sends_on manned.aligner.writer.to }
             requires reader { IsUnread (IsSeatAt (receives_on from.now)) manned.reader }
-            ensures conducted { HasRunAs intake.entry.now
-                W.Source.told W.Ticker.gave W.Sink.took W.Sink.failures_of manned result }
-            ensures counted { HasCountedAll N.taken N.refused N.configured result }
         { conduct(scope, rt, alloc, intake, from, manned) },
     )
 }
