@@ -323,7 +323,6 @@ fn run_keeping<
         rt,
         move |scope| -> Result<Totals, ServiceFault>
             requires { IsRunOf serving.now.concentrator.now (vec_len opened.sources) N.stream }
-            ensures { RanServing K.took M.stored serving.entry.now.concentrator.now opened result }
         { conduct(scope, rt, alloc, serving, opened, record, recent) },
     )
 }
