@@ -1,6 +1,6 @@
 -- What a sink took of a run, from how the run is over.
 use Rattle.std.proofs.Common.{◌≡◌, ◌++◌, ◌∷◌, ℕ, List, Result, Ok, Err, [], arith, inl, inr, refl, subst, sym}
-use Rattle.std.specs.Prelude.{IfOk, length}
+use Rattle.std.specs.Prelude.{Bool, IfErr, IfOk, false, length, true}
 use Rattle.pdc_aligner.specs.Sequence.{instants_of}
 use Rattle.std.proofs.Math.Logic.{∥∥₁_map}
 use Rattle.pdc_hub.specs.declared.fault.HubFault.{HubFault}
@@ -12,10 +12,12 @@ use Rattle.pdc_pipe.specs.declared.message.Message.{Message}
 use Rattle.pdc_ports.specs.Heard.{Heard}
 use Rattle.pdc_startup.specs.declared.concentrator.Concentrator.{Concentrator}
 use Rattle.pdc_startup.specs.declared.fault.ServiceFault.{ServiceFault}
-use Rattle.pdc_threads.specs.declared.telling.Totals.{Totals}
+use Rattle.pdc_threads.specs.declared.totals.Totals.{Totals}
 use Rattle.pdc_threads.specs.OneRun.{Found}
 use Rattle.pdc_service.specs.Ended.{IsOver, kind_of}
 use Rattle.pdc_service.specs.Handed.{HasTaken}
+use Rattle.pdc_service.specs.Serving.{answer_to}
+use Rattle.pdc_startup.specs.Faults.{IsOfRun}
 
 -- nothing was handed to it
 pub nothing_handed : {K : Type 0} (took : K → K → List (List ℕ) → Type 0) (sink : K) (kind : CoreKind) (stored : Stored) (fault : ServiceFault) → took sink sink [] → HasTaken took sink kind stored (Err fault)
@@ -48,6 +50,23 @@ same_published : (outcome : Result Totals HubFault) (told : Result Totals Servic
     → IfOk outcome (λ totals. totals.published ≡ length (instants_of put)) → IfOk told (λ totals. totals.published ≡ length (instants_of put))
 same_published outcome (Ok totals) put same published = subst (λ ended. IfOk ended (λ totals. totals.published ≡ length (instants_of put))) same published
 same_published outcome (Err fault) put same published = tt
+
+-- what holds of the totals of a run holds of them where they are its answer
+pub of_ok : (P : Totals → Type 0) (outcome : Result Totals HubFault) (told : Result Totals ServiceFault) → IfOk told (λ totals. outcome ≡ Ok totals) → IfOk outcome P → IfOk told P
+of_ok P outcome (Ok totals) same holds = subst (λ (ended : Result Totals HubFault). IfOk ended P) same holds
+of_ok P outcome (Err fault) same holds = tt
+
+-- a run answers Ok by the totals of its parts alone
+pub answered_ok : (outcome : Result Totals HubFault) (is_unreadable : Bool) → IfOk (answer_to outcome is_unreadable) (λ totals. outcome ≡ Ok totals)
+answered_ok (Ok totals) true = tt
+answered_ok (Ok totals) false = refl
+answered_ok (Err fault) is_unreadable = tt
+
+-- and fails as runs do
+pub answered_err : (outcome : Result Totals HubFault) (is_unreadable : Bool) → IfErr (answer_to outcome is_unreadable) IsOfRun
+answered_err (Ok totals) true = tt
+answered_err (Ok totals) false = tt
+answered_err (Err fault) is_unreadable = tt
 
 -- A run that is over, whose sink is around another one, handed that one some of its frames.
 pub over_handed : {S L K : Type 0} {concentrator : Concentrator} {every : ℕ} {told : S → List Heard → Type 0} {Gave : List ℕ → Type 0} {failures_of : L → ℕ} {before : Found} {sources : List S} {outcome : Result Totals HubFault}

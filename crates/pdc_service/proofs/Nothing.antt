@@ -13,7 +13,7 @@ use Rattle.pdc_ports.specs.Heard.{Heard}
 use Rattle.pdc_service.specs.Ended.{begun_standing}
 use Rattle.pdc_threads.specs.OneRun.{Found, IsOneRun, found_by}
 use Rattle.pdc_threads.specs.Run.{GivesFrom}
-use Rattle.pdc_threads.specs.declared.telling.Totals.{Totals}
+use Rattle.pdc_threads.specs.declared.totals.Totals.{Totals}
 
 -- no device was asked for anything
 unharmed : (standing : Standing) → HasDevice {T = ℕ} standing standing (Err NoMemory)

@@ -8,7 +8,7 @@ use Rattle.pdc_startup.specs.declared.concentrator.Concentrator.{Concentrator}
 use Rattle.pdc_startup.specs.declared.concentrator.Concentrator.TheVariants.{Merger, Node}
 use Rattle.pdc_threads.specs.OneRun.{Found, IsOneRun}
 use Rattle.pdc_threads.specs.Run.{HasRun}
-use Rattle.pdc_threads.specs.declared.telling.Totals.{Totals}
+use Rattle.pdc_threads.specs.declared.totals.Totals.{Totals}
 
 -- How a mark stands with which a run begins: no store of its publisher failed yet.
 abbrev pub begun_standing : (broken : Bool) (failures : ℕ) → Standing

@@ -10,7 +10,7 @@ use Rattle.pdc_mark.specs.declared.stored.Stored.{Stored}
 use Rattle.pdc_pipe.specs.Sequence.{bytes_of}
 use Rattle.pdc_pipe.specs.declared.message.Message.{Message}
 use Rattle.pdc_startup.specs.declared.fault.ServiceFault.{ServiceFault}
-use Rattle.pdc_threads.specs.declared.telling.Totals.{Totals}
+use Rattle.pdc_threads.specs.declared.totals.Totals.{Totals}
 
 -- From the one state to the other a sink took some of the frames of a life, in their order, and nothing else: of a core of this kind, given
 -- what the mark stored, with the layout again after some number of ticks.

@@ -1,3 +1,5 @@
 pub mod Ended
 pub mod Handed
+pub mod Running
+pub mod Serving
 pub mod Summed

@@ -1,6 +1,6 @@
 -- What the totals of a run are beside its receivers.
 use Rattle.std.specs.Prelude.{◌≡◌, ℕ, map, sum, vec_len}
-use Rattle.pdc_threads.specs.declared.telling.Totals.{Totals}
+use Rattle.pdc_threads.specs.declared.totals.Totals.{Totals}
 
 -- the sums of what the receivers counted
 abbrev pub AreSums : Totals → Type 0

@@ -1,35 +1,51 @@
 //! Runs of a node or the merger, whichever its settings describe.
 ghost use Rattle.std.specs.Prelude.{◌≡◌, IfOk, vec_len};
-ghost use Rattle.pdc_service.specs.Ended.{IsOver, begun_standing};
+ghost use Rattle.pdc_service.specs.Ended.{IsOver};
+ghost use Rattle.pdc_service.specs.Running.{found_begun};
 ghost use Rattle.pdc_service.specs.Summed.{AreSums, HaveEach};
-ghost use Rattle.pdc_startup.specs.Begun.{begun_mark};
 ghost use Rattle.pdc_startup.specs.Concentrator.{streams_of};
-ghost use Rattle.pdc_threads.specs.OneRun.{found_by};
 ghost use Rattle.pdc_threads.specs.Run.{GivesFrom};
 
 use crate::handed::Handed;
 use crate::running_concentrator::{run_merger, run_node};
-use pdc_startup::{Concentrator, Plan};
-use pdc_threads::{HubFault, Outside, Totals};
+use pdc_mark::Mark;
+use pdc_startup::{Begun, Concentrator, Plan};
+use pdc_threads::{Beside, HubFault, Outlet, Source, Ticker, Totals};
 use std::alloc::Global;
 use std::sync::Wait;
 use std::thread::Threads;
 
-/// Runs it, over a source for each of its streams. The sink and the mark are not handed back.
-pub fn run_concentrator<W: Outside, R: Threads + Wait + Sync>(
+/// Runs it, with a mark that has begun, over a source for each of its streams. The sink and the mark are not handed back.
+pub fn run_concentrator<
+    S: Source + Send + Drop,
+    M: Mark + Drop,
+    I: Ticker + Drop,
+    K: Outlet + Send + Drop,
+    R: Threads + Wait + Sync,
+>(
     rt: &R,
     alloc: Global,
     concentrator: &Concentrator,
     plan: &Plan,
-    handed: Handed<W>,
+    mark: Begun<M>,
+    sources: Vec<S>,
+    ticker: I,
+    sink: K,
 ) -> Result<Totals, HubFault>
-    requires { vec_len handed.sources ≡ streams_of concentrator.now }
+    requires { vec_len sources ≡ streams_of concentrator.now }
     ensures totals { IfOk result AreSums }
     ensures each { IfOk result (HaveEach (streams_of concentrator.now)) }
     // It is over as `run_node` and `run_merger` say, with what became of the sink and the mark.
-    ensures over { IsOver concentrator.now plan.now.layout_every W.Source.told (GivesFrom W.Ticker.gave handed.ticker) (W.Sink.took handed.sink) W.Sink.failures_of
-        (found_by (W.Mark.stored (begun_mark handed.mark)) (begun_standing (W.Mark.is_broken (begun_mark handed.mark)) (W.Mark.failures (begun_mark handed.mark))) (W.Sink.failures_of handed.sink)) handed.sources.items result }
+    ensures over { IsOver concentrator.now plan.now.layout_every
+        S.told (GivesFrom I.gave ticker) (K.took sink) K.failures_of
+        (found_begun M.stored M.is_broken M.failures mark (K.failures_of sink)) sources.items result }
 {
+    let handed = Handed::<Beside<S, M, I, K>> {
+        mark,
+        sources,
+        ticker,
+        sink,
+    };
     match concentrator {
         Concentrator::Node(settings) => {
             run_node(rt, alloc, &settings.life, plan, handed).outcome

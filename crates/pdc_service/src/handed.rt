@@ -25,7 +25,8 @@ pub fn hand_over<
     I: Ticker + Drop,
     K: Outlet + Send + Drop,
 >(mark: Begun<M>, sources: Vec<S>, ticker: I, sink: K) -> Handed<Beside<S, M, I, K>>
-    ensures { (result.mark ≡ mark) × (result.sources ≡ sources) × (result.ticker ≡ ticker) × (result.sink ≡ sink) }
+    ensures { (result.mark ≡ mark) × (result.sources ≡ sources)
+        × (result.ticker ≡ ticker) × (result.sink ≡ sink) }
 {
     Handed::<Beside<S, M, I, K>> {
         mark,

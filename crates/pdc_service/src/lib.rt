@@ -7,18 +7,18 @@
 //! were published, in order and whole, with instants that strictly rise above the floor that was stored before the run, and are at most
 //! the floor that is stored after it; and that a run tells what the receiver of each source counted, or the first fault of its parts.
 //! The steps before the run are tried in one order, each once, up to the first that fails: the settings file, the mark file and the start
-//! that is stored on it, the first file of the record where there is one, the sources, the sink, the listener of the sessions, and that of
-//! the counters.
+//! that is stored on it, the sources, the sink, the listener of the sessions, that of the counters, and the first file of the record where
+//! there is one.
 #![tactic(auto)]
 
 mod either;
 mod handed;
 mod host;
 mod porter;
+mod run_texts;
 mod running_concentrator;
 mod service;
 mod serving;
-mod telling;
 
 pub use handed::{Handed, hand_over};
 pub use host::Host;

@@ -1,15 +1,14 @@
 //! Runs of a node and of the merger.
-ghost use Rattle.std.specs.Prelude.{◌≡◌, ◌≤◌, ◌<◌, ◌+◌, ℕ, Err, IfOk, List, Some, [], length, map, sum, vec_len};
-ghost use Rattle.pdc_threads.specs.OneRun.{IsOneRun, found_by};
+ghost use Rattle.std.specs.Prelude.{◌≡◌, ◌≤◌, ◌+◌, Err, Some, [], length, vec_len};
+ghost use Rattle.pdc_threads.specs.Ran.{EndedByMark, EndedBySink, PublishesAs, PublishesSo, stored_in};
 ghost use Rattle.pdc_threads.specs.Opened.{IsOpenedWith};
 ghost use Rattle.pdc_threads.specs.Rate.{IsAtRate};
-ghost use Rattle.pdc_threads.specs.Run.{GivesFrom, HasEach, HasRun, IsCausedByMark, IsCausedBySink, IsSummed};
-ghost use Rattle.pdc_aligner.specs.Device.{standing_of};
+ghost use Rattle.pdc_threads.specs.Run.{HasEach, HasRun, IsSummed};
 ghost use Rattle.pdc_hub.specs.declared.fault.HubFault.TheVariants.{NoMemory};
 ghost use Rattle.pdc_life.specs.CoreKind.{OfMerger, OfNode};
-ghost use Rattle.pdc_publisher.specs.Publisher.{last_in, lead_in, mark_in, output_in};
-ghost use Rattle.pdc_service.specs.Ended.{WasOneLife, begun_standing};
-ghost use Rattle.pdc_startup.specs.Begun.{begun_mark};
+ghost use Rattle.pdc_publisher.specs.Publisher.{last_in, output_in};
+ghost use Rattle.pdc_service.specs.Running.{AreCutInto, AreCutSo, BeginsAs, EndedByBegun};
+ghost use Rattle.pdc_service.specs.Running.{HasSentOf, HasSentReady, WasLifeBy, WasLifeOf, WasLifeReady};
 
 use crate::handed::Handed;
 use pdc_core::{Core, Opens, Reads};
@@ -70,26 +69,31 @@ fn opened<
 ) -> Ran<W::Mark, W::Sink>
 where
     C::Settings: Sync,
-    requires given { N.given ≡ Some (C.given_with settings.now first.start (last_in ready.publisher) first.counts) }
-    requires stands { C.stands_for first.core (C.given_with settings.now first.start (last_in ready.publisher) first.counts) [] }
-    requires settings { (N.settings ≡ Some settings.now) × (C.settings_of first.core ≡ settings.now) }
+    requires given { N.given ≡
+        Some (C.given_with settings.now first.start (last_in ready.publisher) first.counts) }
+    requires stands { C.stands_for first.core
+        (C.given_with settings.now first.start (last_in ready.publisher) first.counts) [] }
+    requires settings { N.settings ≡ Some settings.now }
+    requires same { C.settings_of first.core ≡ settings.now }
     requires limit { 1 ≤ first.limit }
-    requires names { (blanks.taken.name ≡ N.taken.name) × (blanks.refused.name ≡ N.refused.name) × (blanks.configured.name ≡ N.configured.name) × (blanks.top.name ≡ N.top.name) × (blanks.turns.name ≡ N.turns.name) }
+    requires blanks { AreCutSo N.taken N.refused N.configured N.top N.turns blanks }
     requires log { (blanks.log.seen.book ≡ N.book) × (blanks.log.seen.log ≡ []) }
-    requires parts { (blanks.taken.parts ≡ N.taken.parts) × (blanks.refused.parts ≡ N.refused.parts) × (blanks.configured.parts ≡ N.configured.parts) × (blanks.top.parts ≡ N.top.parts) × (blanks.turns.parts ≡ N.turns.parts) }
-    requires count { (N.taken.parts ≡ vec_len ready.sources + 1) × (N.refused.parts ≡ vec_len ready.sources + 1) × (N.configured.parts ≡ vec_len ready.sources + 1) × (N.top.parts ≡ 1) × (N.turns.parts ≡ 1) }
-    requires streams { (vec_len ready.sources ≡ C.Settings.streams settings.now) × (vec_len ready.sources ≤ MAX_PMUS) }
-    requires floor { last_in ready.publisher ≡ (W.Mark.stored (mark_in ready.publisher)).floor }
+    requires count { AreCutInto (vec_len ready.sources + 1)
+        N.taken N.refused N.configured N.top N.turns }
+    requires streams { vec_len ready.sources ≡ C.Settings.streams settings.now }
+    requires few { vec_len ready.sources ≤ MAX_PMUS }
+    requires floor { last_in ready.publisher ≡ (stored_in ready.publisher).floor }
     requires rate { IsAtRate N.given (output_in ready.publisher).rate }
-    requires opened { IsOpenedWith N.given (W.Mark.stored (mark_in ready.publisher)) }
+    requires opened { IsOpenedWith N.given (stored_in ready.publisher) }
     ensures totals { IsSummed result.outcome }
-    ensures kept { (output_in result.publisher ≡ output_in ready.publisher) × (lead_in result.publisher ≡ lead_in ready.publisher) }
-    ensures sink { IsCausedBySink result.outcome (W.Sink.failures_of ready.sink) (W.Sink.failures_of result.sink) }
+    ensures kept { PublishesAs ready.publisher result.publisher }
+    ensures sink { EndedBySink W.Sink.failures_of ready.sink result }
     ensures each { HasEach result.outcome (vec_len ready.sources) }
-    ensures mark { IsCausedByMark result.outcome (standing_of ready.publisher) (standing_of result.publisher) }
-    ensures one { ∥ IsOneRun C.rules (C.Settings.says settings.now) (C.given_with settings.now first.start (last_in ready.publisher) first.counts) (output_in ready.publisher) ready.pace.rate ready.pace.layout_every W.Source.told ready.sources.items (GivesFrom W.Ticker.gave ready.ticker) (W.Sink.took ready.sink result.sink)
-        (found_by (W.Mark.stored (mark_in ready.publisher)) (standing_of ready.publisher) (W.Sink.failures_of ready.sink)) (found_by (W.Mark.stored (mark_in result.publisher)) (standing_of result.publisher) (W.Sink.failures_of result.sink)) result.outcome ∥₁ }
-    ensures sent { HasRun (W.Sink.took ready.sink result.sink) (last_in ready.publisher) (W.Mark.stored (mark_in result.publisher)).floor result.outcome }
+    ensures mark { EndedByMark ready.publisher result }
+    ensures one { WasLifeReady C.rules (C.Settings.says settings.now)
+        (C.given_with settings.now first.start (last_in ready.publisher) first.counts)
+        W.Source.told W.Ticker.gave W.Sink.took W.Sink.failures_of ready result }
+    ensures sent { HasSentReady W.Sink.took ready result }
 {
     let First {
         core,
@@ -125,10 +129,11 @@ where
 
 /// Nothing was run, for want of memory.
 fn not_run<M: Mark, K: Sink>(publisher: Publisher<M>, sink: K) -> Ran<M, K>
-    requires floor { last_in publisher ≡ (M.stored (mark_in publisher)).floor }
+    requires floor { last_in publisher ≡ (stored_in publisher).floor }
     ensures outcome { result.outcome ≡ Err NoMemory }
     ensures kept { (result.publisher ≡ publisher) × (result.sink ≡ sink) }
-    ensures sent { HasRun (K.took sink result.sink) (last_in publisher) (M.stored (mark_in result.publisher)).floor result.outcome }
+    ensures sent { HasRun (K.took sink result.sink)
+        (last_in publisher) (stored_in result.publisher).floor result.outcome }
 {
     Ran {
         publisher,
@@ -148,19 +153,18 @@ fn run_begun<C: Opens + Send, W: Outside, R: Threads + Wait + Sync>(
 where
     C::Settings: Sync,
     requires copy { copy ≡ life.now.settings.now }
-    requires output { (start floor : ℕ) (counts : List ℕ) → (C.given_with life.now.settings.now start floor counts).output ≡ life.now.output }
-    requires start { (start floor : ℕ) (counts : List ℕ) → (C.given_with life.now.settings.now start floor counts).start ≡ start }
-    requires floor { (start floor : ℕ) (counts : List ℕ) → (C.given_with life.now.settings.now start floor counts).floor ≡ floor }
-    requires counts { (start floor : ℕ) (counts : List ℕ) → (C.given_with life.now.settings.now start floor counts).counts ≡ counts }
-    requires streams { (vec_len handed.sources ≡ C.Settings.streams life.now.settings.now) × (vec_len handed.sources ≤ MAX_PMUS) }
+    requires begins { BeginsAs C.given_with life.now.settings.now life.now.output }
+    requires streams { vec_len handed.sources ≡ C.Settings.streams life.now.settings.now }
+    requires few { vec_len handed.sources ≤ MAX_PMUS }
     ensures totals { IsSummed result.outcome }
-    ensures kept { (output_in result.publisher ≡ life.now.output) × (lead_in result.publisher ≡ life.now.plan.now.lead) }
-    ensures sink { IsCausedBySink result.outcome (W.Sink.failures_of handed.sink) (W.Sink.failures_of result.sink) }
+    ensures kept { PublishesSo life.now.output life.now.plan.now.lead result.publisher }
+    ensures sink { EndedBySink W.Sink.failures_of handed.sink result }
     ensures each { HasEach result.outcome (vec_len handed.sources) }
-    ensures mark { IsCausedByMark result.outcome (begun_standing (W.Mark.is_broken (begun_mark handed.mark)) (W.Mark.failures (begun_mark handed.mark))) (standing_of result.publisher) }
-    ensures one { ∥ IsOneRun C.rules (C.Settings.says life.now.settings.now) (C.given_with life.now.settings.now (W.Mark.stored (begun_mark handed.mark)).start (W.Mark.stored (begun_mark handed.mark)).floor (W.Mark.stored (begun_mark handed.mark)).counts) life.now.output life.now.output.rate life.now.plan.now.layout_every W.Source.told handed.sources.items (GivesFrom W.Ticker.gave handed.ticker) (W.Sink.took handed.sink result.sink)
-        (found_by (W.Mark.stored (begun_mark handed.mark)) (begun_standing (W.Mark.is_broken (begun_mark handed.mark)) (W.Mark.failures (begun_mark handed.mark))) (W.Sink.failures_of handed.sink)) (found_by (W.Mark.stored (mark_in result.publisher)) (standing_of result.publisher) (W.Sink.failures_of result.sink)) result.outcome ∥₁ }
-    ensures sent { HasRun (W.Sink.took handed.sink result.sink) (W.Mark.stored (begun_mark handed.mark)).floor (W.Mark.stored (mark_in result.publisher)).floor result.outcome }
+    ensures mark { EndedByBegun handed.mark result }
+    ensures one { WasLifeBy C.rules (C.Settings.says life.now.settings.now)
+        (C.given_with life.now.settings.now) life.now.output life.now.plan.now.layout_every
+        W.Source.told W.Ticker.gave W.Sink.took W.Sink.failures_of handed result }
+    ensures sent { HasSentOf W.Sink.took handed result }
 {
     let Handed {
         mark,
@@ -212,21 +216,21 @@ pub fn run_node<W: Outside, R: Threads + Wait + Sync>(
     // Each PMU has a source.
     requires { vec_len handed.sources ≡ length settings.now.pmus.items }
     // The totals are the sums over the receivers.
-    ensures totals { IfOk result.outcome (λ t. (t.taken ≡ sum (map (λ c. c.taken) t.receivers.items)) × (t.refused ≡ sum (map (λ c. c.refused) t.receivers.items))) }
+    ensures totals { IsSummed result.outcome }
     // Only a sink that failed ends it by the sink's fault.
-    ensures sink { IsCausedBySink result.outcome (W.Sink.failures_of handed.sink) (W.Sink.failures_of result.sink) }
+    ensures sink { EndedBySink W.Sink.failures_of handed.sink result }
     // What the sink took are the first of the frames put, whose instants strictly rise above the floor that was stored, and are at most the
     // one that is stored then; all of them where the run was Ok, and then so many rows were published.
-    ensures sent { HasRun (W.Sink.took handed.sink result.sink) (W.Mark.stored (begun_mark handed.mark)).floor (W.Mark.stored (mark_in result.publisher)).floor result.outcome }
+    ensures sent { HasSentOf W.Sink.took handed result }
     // Each source has an entry.
     ensures each { HasEach result.outcome (vec_len handed.sources) }
     // The publisher is one of the node's frames, and reserves as many instants ahead as the plan says.
-    ensures kept { (output_in result.publisher ≡ settings.now.output) × (lead_in result.publisher ≡ plan.now.lead) }
+    ensures kept { PublishesSo settings.now.output plan.now.lead result.publisher }
     // Only a mark that stood broken, or whose device failed, ends it by the device's fault.
-    ensures mark { IsCausedByMark result.outcome (begun_standing (W.Mark.is_broken (begun_mark handed.mark)) (W.Mark.failures (begun_mark handed.mark))) (standing_of result.publisher) }
+    ensures mark { EndedByBegun handed.mark result }
     // It was one life of a node, begun with what the mark stored, of which the sources gave what came, and the sink took the frames.
-    ensures one { WasOneLife (OfNode settings.now) plan.now.layout_every W.Source.told (GivesFrom W.Ticker.gave handed.ticker) (W.Sink.took handed.sink result.sink)
-        (found_by (W.Mark.stored (begun_mark handed.mark)) (begun_standing (W.Mark.is_broken (begun_mark handed.mark)) (W.Mark.failures (begun_mark handed.mark))) (W.Sink.failures_of handed.sink)) (found_by (W.Mark.stored (mark_in result.publisher)) (standing_of result.publisher) (W.Sink.failures_of result.sink)) handed.sources.items result.outcome }
+    ensures one { WasLifeOf (OfNode settings.now) plan.now.layout_every
+        W.Source.told W.Ticker.gave W.Sink.took W.Sink.failures_of handed result }
 {
     let life = Life {
         settings,
@@ -250,14 +254,14 @@ pub fn run_merger<W: Outside, R: Threads + Wait + Sync>(
 ) -> Ran<W::Mark, W::Sink>
     // Node A and node B have a source each.
     requires { vec_len handed.sources ≡ 2 }
-    ensures totals { IfOk result.outcome (λ t. (t.taken ≡ sum (map (λ c. c.taken) t.receivers.items)) × (t.refused ≡ sum (map (λ c. c.refused) t.receivers.items))) }
-    ensures sink { IsCausedBySink result.outcome (W.Sink.failures_of handed.sink) (W.Sink.failures_of result.sink) }
-    ensures sent { HasRun (W.Sink.took handed.sink result.sink) (W.Mark.stored (begun_mark handed.mark)).floor (W.Mark.stored (mark_in result.publisher)).floor result.outcome }
+    ensures totals { IsSummed result.outcome }
+    ensures sink { EndedBySink W.Sink.failures_of handed.sink result }
+    ensures sent { HasSentOf W.Sink.took handed result }
     ensures each { HasEach result.outcome (vec_len handed.sources) }
-    ensures kept { (output_in result.publisher ≡ settings.now.output) × (lead_in result.publisher ≡ plan.now.lead) }
-    ensures mark { IsCausedByMark result.outcome (begun_standing (W.Mark.is_broken (begun_mark handed.mark)) (W.Mark.failures (begun_mark handed.mark))) (standing_of result.publisher) }
-    ensures one { WasOneLife (OfMerger settings.now) plan.now.layout_every W.Source.told (GivesFrom W.Ticker.gave handed.ticker) (W.Sink.took handed.sink result.sink)
-        (found_by (W.Mark.stored (begun_mark handed.mark)) (begun_standing (W.Mark.is_broken (begun_mark handed.mark)) (W.Mark.failures (begun_mark handed.mark))) (W.Sink.failures_of handed.sink)) (found_by (W.Mark.stored (mark_in result.publisher)) (standing_of result.publisher) (W.Sink.failures_of result.sink)) handed.sources.items result.outcome }
+    ensures kept { PublishesSo settings.now.output plan.now.lead result.publisher }
+    ensures mark { EndedByBegun handed.mark result }
+    ensures one { WasLifeOf (OfMerger settings.now) plan.now.layout_every
+        W.Source.told W.Ticker.gave W.Sink.took W.Sink.failures_of handed result }
 {
     let life = Life {
         settings,

@@ -1,16 +1,14 @@
 //! A node and the merger, from their files to the end of their run.
-ghost use Rattle.std.specs.Prelude.{◌≡◌, ◌∷◌, IfOk, None, Some, [], vec_len};
-ghost use Rattle.pdc_service.specs.Ended.{kind_of};
-ghost use Rattle.pdc_service.specs.Handed.{WasHanded};
+ghost use Rattle.std.specs.Prelude.{◌≡◌, IfOk, None, Some, vec_len};
+ghost use Rattle.pdc_service.specs.Serving.{OpensAndRuns, StartsAndRuns, steps_behind_links, steps_behind_mark};
 ghost use Rattle.pdc_service.specs.Summed.{AreSums, HaveEach};
 ghost use Rattle.pdc_startup.specs.Begun.{begun_mark};
 ghost use Rattle.pdc_startup.specs.Concentrator.{IsMerger, IsNode, streams_of};
-ghost use Rattle.pdc_startup.specs.Steps.{HasOpened, HasStarted, steps_with};
-ghost use Rattle.pdc_startup.specs.declared.described.Step.TheVariants.{BeginRecord, OpenListener, OpenMetrics, OpenSink, OpenSources};
+ghost use Rattle.pdc_startup.specs.Steps.{steps_with};
 
 use crate::host::Host;
+use crate::run_texts::{begun_text, unknown_text};
 use crate::serving::{Consumers, Opened, Serving, run_serving};
-use crate::telling::{begun_text, unknown_text};
 use pdc_mark::Mark;
 use pdc_server::Seats;
 use pdc_settings::unknown_keys;
@@ -59,7 +57,8 @@ fn serve_linked<M: Machine, S: Source + Send + Drop, R: Host>(
     requires { vec_len linked.sources ≡ streams_of described.now.concentrator }
     ensures totals { IfOk result AreSums }
     ensures each { IfOk result (HaveEach (streams_of described.now.concentrator)) }
-    ensures opened { HasOpened M.tried machine.old machine.new described.now (λ described stored. WasHanded M.fresh M.Outputs.took (kind_of described.concentrator) stored result) (Some (M.Mark.stored (begun_mark linked.mark))) (OpenSink ∷ OpenListener ∷ OpenMetrics ∷ BeginRecord files.now ∷ []) result }
+    ensures opened { OpensAndRuns M.tried M.fresh M.Outputs.took machine.old machine.new
+        described.now (Some (M.Mark.stored (begun_mark linked.mark))) (steps_behind_links files.now) result }
 {
     let alloc = rt.alloc();
     let concentrator = &described.concentrator;
@@ -79,7 +78,6 @@ fn serve_linked<M: Machine, S: Source + Send + Drop, R: Host>(
         mark: linked.mark,
         sources: linked.sources,
         sink: OutputsSink::new(outputs, observed.outputs.as_slice()),
-        record,
     };
     let consumers = Consumers {
         listener,
@@ -93,7 +91,7 @@ fn serve_linked<M: Machine, S: Source + Send + Drop, R: Host>(
         consumers: &consumers,
         observed,
     };
-    run_serving(rt, alloc, &serving, opened)
+    run_serving(rt, alloc, &serving, opened, record)
 }
 
 /// Tries the steps behind the mark, in their order, and runs the concentrator that the settings describe.
@@ -107,7 +105,8 @@ fn serve_watched<M: Machine, R: Host>(
 ) -> Result<Totals, ServiceFault>
     ensures totals { IfOk result AreSums }
     ensures each { IfOk result (HaveEach (streams_of described.now.concentrator)) }
-    ensures opened { HasOpened M.tried machine.old machine.new described.now (λ described stored. WasHanded M.fresh M.Outputs.took (kind_of described.concentrator) stored result) (Some (M.Mark.stored (begun_mark watched.entry.mark))) (OpenSources ∷ OpenSink ∷ OpenListener ∷ OpenMetrics ∷ BeginRecord files.now ∷ []) result }
+    ensures opened { OpensAndRuns M.tried M.fresh M.Outputs.took machine.old machine.new
+        described.now (Some (M.Mark.stored (begun_mark watched.entry.mark))) (steps_behind_mark files.now) result }
 {
     let Watched { mark, observed } = watched;
     let sources = machine.open_links(rt, described, observed)?;
@@ -131,7 +130,8 @@ fn serve_described<M: Machine, R: Host>(
 ) -> Result<Totals, ServiceFault>
     ensures totals { IfOk result AreSums }
     ensures each { IfOk result (HaveEach (streams_of described.now.concentrator)) }
-    ensures opened { HasOpened M.tried machine.old machine.new described.now (λ described stored. WasHanded M.fresh M.Outputs.took (kind_of described.concentrator) stored result) None (steps_with files.now) result }
+    ensures opened { OpensAndRuns M.tried M.fresh M.Outputs.took machine.old machine.new
+        described.now None (steps_with files.now) result }
 {
     let (concentrator, network) = (&described.concentrator, &described.network);
     let (alloc, is_recorded) = (rt.alloc(), files.record.is_some());
@@ -166,7 +166,8 @@ pub fn serve_node<M: Machine, R: Host>(
     // first; the last of them failed, and it ended by that fault, or all were opened, and it ended by the run's answer. Then, whatever the
     // machine's outputs are, what they took are some of the frames of one life, in their order, which is given what these settings and the
     // mark say that was begun; instants strictly rise above the floor that it stored.
-    ensures started { HasStarted M.tried machine.old machine.new IsNode (λ described stored. WasHanded M.fresh M.Outputs.took (kind_of described.concentrator) stored result) files.now result }
+    ensures started { StartsAndRuns M.tried M.fresh M.Outputs.took machine.old machine.new
+        IsNode files.now result }
 {
     let described = machine.read_node(rt, files)?;
     serve_described(rt, machine, files, options, &described)
@@ -187,7 +188,8 @@ pub fn serve_merger<M: Machine, R: Host>(
     ensures totals { IfOk result AreSums }
     // Node A and node B have an entry each.
     ensures each { IfOk result (HaveEach 2) }
-    ensures started { HasStarted M.tried machine.old machine.new IsMerger (λ described stored. WasHanded M.fresh M.Outputs.took (kind_of described.concentrator) stored result) files.now result }
+    ensures started { StartsAndRuns M.tried M.fresh M.Outputs.took machine.old machine.new
+        IsMerger files.now result }
 {
     let described = machine.read_merger(rt, files)?;
     serve_described(rt, machine, files, options, &described)

@@ -1,20 +1,12 @@
 //! A run with consumers beside it.
-ghost use Rattle.std.specs.Prelude.{◌≡◌, Err, IfErr, IfOk, vec_len};
-ghost use Rattle.pdc_server.specs.Stream.{stream_of};
-ghost use Rattle.pdc_life.specs.CoreKind.{CoreKind};
-ghost use Rattle.pdc_service.specs.Ended.{kind_of};
-ghost use Rattle.pdc_service.specs.Handed.{HasTaken};
-ghost use Rattle.pdc_service.specs.Summed.{AreSums, HaveEach};
-ghost use Rattle.pdc_startup.specs.Begun.{begun_mark};
-ghost use Rattle.pdc_startup.specs.Concentrator.{output_of, streams_of};
-ghost use Rattle.pdc_startup.specs.Faults.{IsOfRun};
-ghost use Rattle.pdc_startup.specs.declared.fault.ServiceFault.TheVariants.{Run};
-ghost use Rattle.pdc_hub.specs.declared.fault.HubFault.TheVariants.{NoMemory};
+ghost use Rattle.std.specs.Prelude.{◌≡◌, vec_len};
+ghost use Rattle.pdc_service.specs.Serving.{IsRunOf, RanServing, answer_to};
+ghost use Rattle.pdc_startup.specs.declared.concentrator.Concentrator.{Concentrator};
+ghost use Rattle.pdc_startup.specs.Concentrator.{streams_of};
 
 use crate::either::run_concentrator;
-use crate::handed::hand_over;
 use crate::porter::JournalPorter;
-use crate::telling::unsent_text;
+use crate::run_texts::unsent_text;
 use pdc_journal::{AnnouncingSink, CountingSink, Journal, Reporting, RunCounters};
 use pdc_mark::Mark;
 use pdc_metrics::{Metered, OwnFiles, serve_metrics};
@@ -35,13 +27,12 @@ use std::sync::atomic::{AtomicU64, Ordering};
 use std::thread;
 use std::thread::{Scope, Threads};
 
-/// What is open for a run: its mark, a source for each stream, where frames go, and the files of its record, where it is recorded.
+/// What is open for a run: its mark, a source for each stream, and where frames go.
 #[derive(Drop)]
-pub struct Opened<'a, S: Source + Drop, M: Mark + Drop, K: Sink + Drop> {
+pub struct Opened<S: Source + Drop, M: Mark + Drop, K: Sink + Drop> {
     pub mark: Begun<M>,
     pub sources: Vec<S>,
     pub sink: K,
-    pub record: Option<Series<'a>>,
 }
 
 /// Where consumers come, how many are served at once, and where the counters are asked for.
@@ -189,15 +180,11 @@ fn run_observed<
     rt: &'s R,
     alloc: Global,
     serving: &'s Serving<'s>,
-    opened: Opened<'s, S, M, K>,
+    opened: Opened<S, M, K>,
     recent: &'s Recent<N>,
 ) -> Result<Totals, ServiceFault>
-    requires streams { vec_len opened.sources ≡ streams_of serving.now.concentrator.now }
-    requires named { N.stream ≡ stream_of (output_of serving.now.concentrator.now) }
-    ensures totals { IfOk result AreSums }
-    ensures each { IfOk result (HaveEach (streams_of serving.now.concentrator.now)) }
-    ensures faults { IfErr result IsOfRun }
-    ensures handed { HasTaken K.took opened.entry.sink (kind_of serving.now.concentrator.now) (M.stored (begun_mark opened.entry.mark)) result }
+    requires { IsRunOf serving.now.concentrator.now (vec_len opened.sources) N.stream }
+    ensures { RanServing K.took M.stored serving.now.concentrator.now opened result }
 {
     let (concentrator, options, observed) = (
         serving.concentrator,
@@ -208,7 +195,6 @@ fn run_observed<
         mark,
         sources,
         sink,
-        record: _,
     } = opened;
     let output = concentrator.output();
     let service = concentrator.service_settings();
@@ -242,14 +228,21 @@ fn run_observed<
     let sink = CountingSink::new(sink, &signs.unsent);
     let sink = RememberingSink::new(rt, alloc, recent, output, &signs.unsent, sink);
     let mark = mark.timed(rt, &observed.stores);
-    let handed = hand_over(mark, sources, ticker, sink);
-    let outcome = run_concentrator(rt, alloc, concentrator, &plan, handed);
+    let outcome = run_concentrator(rt, alloc, concentrator, &plan, mark, sources, ticker, sink);
     let unsent = signs.unsent.load(Ordering::Relaxed);
     if unsent > 0 {
         journal.tell(rt, unsent_text(alloc, unsent));
     }
+    let is_unreadable = signs.is_clock_unreadable.load(Ordering::Relaxed);
+    answer(outcome, is_unreadable)
+}
+
+/// What a run answers: what its parts do, or that the clock could not be read.
+fn answer(outcome: Result<Totals, HubFault>, is_unreadable: bool) -> Result<Totals, ServiceFault>
+    ensures { result ≡ answer_to outcome is_unreadable }
+{
     match outcome {
-        Ok(_) if signs.is_clock_unreadable.load(Ordering::Relaxed) => Err(ServiceFault::Clock),
+        Ok(_) if is_unreadable => Err(ServiceFault::Clock),
         Ok(totals) => Ok(totals),
         Err(fault) => Err(ServiceFault::Run(fault)),
     }
@@ -257,16 +250,15 @@ fn run_observed<
 
 /// Nothing is run of what was opened, for want of memory.
 fn not_begun<S: Source + Drop, M: Mark + Drop, K: Sink + Drop>(
-    opened: Opened<'_, S, M, K>,
+    opened: Opened<S, M, K>,
 ) -> Result<Totals, ServiceFault>
-    ensures fault { result ≡ Err (Run NoMemory) }
-    ensures handed { (kind : CoreKind) → HasTaken K.took opened.entry.sink kind (M.stored (begun_mark opened.entry.mark)) result }
+    ensures { (concentrator : Concentrator) → RanServing K.took M.stored concentrator opened result }
 {
     drop(opened);
     Err(ServiceFault::Run(HubFault::NoMemory))
 }
 
-/// Starts the sessions and the journal, runs, and ends both.
+/// Starts the record, the journal, the counters and the sessions, runs, and ends them.
 fn conduct<
     's,
     E: 's,
@@ -280,21 +272,16 @@ fn conduct<
     rt: &'s R,
     alloc: Global,
     serving: &'s Serving<'s>,
-    opened: Opened<'s, S, M, K>,
+    opened: Opened<S, M, K>,
+    record: Option<Series<'s>>,
     recent: &'s Recent<N>,
 ) -> Result<Totals, ServiceFault>
-    requires streams { vec_len opened.sources ≡ streams_of serving.now.concentrator.now }
-    requires named { N.stream ≡ stream_of (output_of serving.now.concentrator.now) }
-    ensures totals { IfOk result AreSums }
-    ensures each { IfOk result (HaveEach (streams_of serving.now.concentrator.now)) }
-    ensures faults { IfErr result IsOfRun }
-    ensures handed { HasTaken K.took opened.entry.sink (kind_of serving.now.concentrator.now) (M.stored (begun_mark opened.entry.mark)) result }
+    requires { IsRunOf serving.now.concentrator.now (vec_len opened.sources) N.stream }
+    ensures { RanServing K.took M.stored serving.now.concentrator.now opened result }
 {
-    let mut opened = opened;
     let observed = serving.observed;
-    let record = opened.record.take();
-    let is_begun = start_journal(scope, rt, &observed.journal)
-        && start_record(scope, rt, alloc, record, observed)
+    let is_begun = start_record(scope, rt, alloc, record, observed)
+        && start_journal(scope, rt, &observed.journal)
         && start_metrics(scope, rt, alloc, serving.consumers, observed)
         && start_sessions(scope, rt, alloc, recent, serving);
     let outcome = if is_begun {
@@ -324,27 +311,19 @@ fn run_keeping<
     rt: &'x R,
     alloc: Global,
     serving: &'x Serving<'x>,
-    opened: Opened<'x, S, M, K>,
+    opened: Opened<S, M, K>,
+    record: Option<Series<'x>>,
     recent: &'x Recent<N>,
 ) -> Result<Totals, ServiceFault>
-    requires streams { vec_len opened.sources ≡ streams_of serving.now.concentrator.now }
-    requires named { N.stream ≡ stream_of (output_of serving.now.concentrator.now) }
-    ensures totals { IfOk result AreSums }
-    ensures each { IfOk result (HaveEach (streams_of serving.now.concentrator.now)) }
-    ensures faults { IfErr result IsOfRun }
-    ensures handed { HasTaken K.took opened.entry.sink (kind_of serving.now.concentrator.now) (M.stored (begun_mark opened.entry.mark)) result }
+    requires { IsRunOf serving.now.concentrator.now (vec_len opened.sources) N.stream }
+    ensures { RanServing K.took M.stored serving.now.concentrator.now opened result }
 {
     thread::scope(
         thread::scope_env(),
         rt,
         move |scope| -> Result<Totals, ServiceFault>
-            requires streams { vec_len opened.sources ≡ streams_of serving.now.concentrator.now }
-            requires named { N.stream ≡ stream_of (output_of serving.now.concentrator.now) }
-            ensures totals { IfOk result AreSums }
-            ensures each { IfOk result (HaveEach (streams_of serving.entry.now.concentrator.now)) }
-            ensures faults { IfErr result IsOfRun }
-            ensures handed { HasTaken K.took opened.entry.sink (kind_of serving.entry.now.concentrator.now) (M.stored (begun_mark opened.entry.mark)) result }
-        { conduct(scope, rt, alloc, serving, opened, recent) },
+            requires { IsRunOf serving.now.concentrator.now (vec_len opened.sources) N.stream }
+        { conduct(scope, rt, alloc, serving, opened, record, recent) },
     )
 }
 
@@ -359,20 +338,17 @@ fn run_named<
     rt: &R,
     alloc: Global,
     serving: &Serving<'_>,
-    opened: Opened<'_, S, M, K>,
+    opened: Opened<S, M, K>,
+    record: Option<Series<'_>>,
 ) -> Result<Totals, ServiceFault>
-    requires streams { vec_len opened.sources ≡ streams_of serving.now.concentrator.now }
-    requires named { N.stream ≡ stream_of (output_of serving.now.concentrator.now) }
-    ensures totals { IfOk result AreSums }
-    ensures each { IfOk result (HaveEach (streams_of serving.now.concentrator.now)) }
-    ensures faults { IfErr result IsOfRun }
-    ensures handed { HasTaken K.took opened.entry.sink (kind_of serving.now.concentrator.now) (M.stored (begun_mark opened.entry.mark)) result }
+    requires { IsRunOf serving.now.concentrator.now (vec_len opened.sources) N.stream }
+    ensures { RanServing K.took M.stored serving.now.concentrator.now opened result }
 {
     let output = serving.concentrator.output();
     let Ok(recent) = Recent::<N>::new(alloc, &output, opened.mark.start()) else {
         return not_begun(opened);
     };
-    run_keeping(rt, alloc, serving, opened, &recent)
+    run_keeping(rt, alloc, serving, opened, record, &recent)
 }
 
 /// Runs a concentrator, serves its consumers and prints what is told, for as long as it runs.
@@ -385,13 +361,12 @@ pub fn run_serving<
     rt: &R,
     alloc: Global,
     serving: &Serving<'_>,
-    opened: Opened<'_, S, M, K>,
+    opened: Opened<S, M, K>,
+    record: Option<Series<'_>>,
 ) -> Result<Totals, ServiceFault>
     requires { vec_len opened.sources ≡ streams_of serving.now.concentrator.now }
-    ensures totals { IfOk result AreSums }
-    ensures each { IfOk result (HaveEach (streams_of serving.now.concentrator.now)) }
-    ensures faults { IfErr result IsOfRun }
-    ensures handed { HasTaken K.took opened.entry.sink (kind_of serving.now.concentrator.now) (M.stored (begun_mark opened.entry.mark)) result }
+    // Its totals are the sums over the receivers, with an entry for each stream; it failed as runs do; and its sink took what a run hands on.
+    ensures { RanServing K.took M.stored serving.now.concentrator.now opened result }
 {
-    run_named::<S, M, K, Brand, R>(rt, alloc, serving, opened)
+    run_named::<S, M, K, Brand, R>(rt, alloc, serving, opened, record)
 }

@@ -14,7 +14,7 @@ use Rattle.pdc_pipe.specs.declared.message.Message.TheVariants.{Data, Layout, En
 use Rattle.pdc_publisher.specs.declared.published.Published.{Published}
 use Rattle.pdc_row.specs.Layout.{wire_of}
 use Rattle.pdc_row.specs.declared.output.Output.{Output}
-use Rattle.pdc_threads.specs.declared.telling.Totals.{Totals}
+use Rattle.pdc_threads.specs.declared.totals.Totals.{Totals}
 
 -- the second byte has the kind above its low four bits, which is 0 of a data frame
 is_data_frame : List ℕ → Bool

@@ -30,7 +30,7 @@ use Rattle.pdc_row.specs.declared.output.Output.{Output}
 use Rattle.pdc_threads.specs.Ended.{AreFor, Ending, HasEndedOf}
 use Rattle.pdc_threads.specs.Headline.{AreFramesOf, HasGiven, IsOfSource, IsRowOfSources, RunsKeepHeadline, WereTaken, begun_with}
 use Rattle.pdc_threads.specs.OneRun.{IsBrought}
-use Rattle.pdc_threads.specs.declared.telling.Totals.{Totals}
+use Rattle.pdc_threads.specs.declared.totals.Totals.{Totals}
 
 -- ---- frames, by their rows
 

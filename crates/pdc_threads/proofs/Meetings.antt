@@ -33,7 +33,7 @@ use Rattle.pdc_row.specs.declared.output.Output.{Output}
 use Rattle.pdc_threads.specs.Ended.{AreFor, Ending, HasEndedOf, fault_in, first_fault, first_of}
 use Rattle.pdc_threads.specs.OneRun.{Found, IsBrought, IsOneRun}
 use Rattle.pdc_threads.specs.declared.receivers.Counted.{Counted}
-use Rattle.pdc_threads.specs.declared.telling.Totals.{Totals}
+use Rattle.pdc_threads.specs.declared.totals.Totals.{Totals}
 use Rattle.pdc_threads.proofs.Counting.{tells_popped}
 
 -- what a stream brought, by what it is

@@ -1,6 +1,6 @@
 -- What a run tells of what was put.
 use Rattle.std.proofs.Common.{arith, rules, ◌≡◌, ◌≤◌, ◌+◌, ℕ, length, Option, Some, Result, Ok, Err, IfOk, OnOk, Bool, true, false, if◌then◌else◌, List, [], ◌∷◌, ◌++◌, map, refl, sym, ap, ◌∙◌, subst, append-nil, vec_len}
-use Rattle.pdc_aligner.specs.Device.{Standing}
+use Rattle.pdc_aligner.specs.Device.{HasDevice, Standing}
 use Rattle.pdc_aligner.specs.Laid.{IsLaidBut}
 use Rattle.pdc_aligner.specs.Sequence.{HasPutAll, Rises, instants_of}
 use Rattle.pdc_aligner.specs.Turns.{HasGiven, HasTicked}
@@ -22,7 +22,7 @@ use Rattle.pdc_pipe.specs.declared.senders.Ended.TheVariants.{AtEndMark, Aligner
 use Rattle.pdc_ports.specs.Heard.{Heard}
 use Rattle.pdc_row.specs.declared.output.Output.{Output}
 use Rattle.pdc_threads.specs.declared.receivers.Counted.{Counted}
-use Rattle.pdc_threads.specs.declared.telling.Totals.{Totals}
+use Rattle.pdc_threads.specs.declared.totals.Totals.{Totals}
 use Rattle.pdc_threads.specs.Conducted.{HasConducted}
 use Rattle.pdc_threads.specs.Ended.{Ending, fault_in, first_fault, first_of}
 use Rattle.pdc_threads.specs.OneRun.{found_by}
@@ -106,13 +106,22 @@ pub told_of : (outcome : Result Totals HubFault) (endings : List Ending) (fault 
     → fault_in outcome ≡ first_fault fault complete aligned sent → fault_in outcome ≡ first_fault (first_of endings) complete aligned sent
 told_of outcome endings fault complete aligned sent same told = told ∙ ap (λ f. first_fault f complete aligned sent) (sym same)
 
-none_put : (ended : Bool) → instants_of (end_mark ended) ≡ []
+pub none_put : (ended : Bool) → instants_of (end_mark ended) ≡ []
 none_put true = refl
 none_put false = refl
 
 -- nothing was popped, and nothing was put but the end mark at most
 pub none_popped : {A : Type 0} (popped : ℕ) (fault : HubFault) (ended : Bool) (put : List Message) → put ≡ end_mark ended → HasPutAll {A = A} popped popped [] put (Err fault)
 none_popped popped fault ended put e = record { lost = 0; all = omega (arith, ap (λ ms. length (instants_of ms)) e, ap length (none_put ended)); one_at_most = omega arith; whole = tt }
+
+-- no device was asked for anything
+pub unharmed : (standing : Standing) → HasDevice {T = ℕ} standing standing (Err NoMemory)
+unharmed standing = record { no_fewer = omega arith; caused = search rules; sound = tt }
+
+-- what holds anyway holds where it is Ok
+pub anyway : {T P : Type 0} (result : Result T HubFault) → P → OnOk result P
+anyway (Ok value) p = p
+anyway (Err fault) p = tt
 
 -- Where nothing was handed on
 pub nothing_sent : {Took : List (List ℕ) → Type 0} → Took [] → HasHandedOn Took [] AlignerGone
@@ -162,7 +171,7 @@ none_conducted answers Says named told sources pace gave ticker output lead last
         entries = tt;
         published = tt;
         aligned = Err NoMemory;
-        device = record { no_fewer = omega arith; caused = search rules; sound = tt };
+        device = unharmed standing;
         ended = sent;
         sink = cause;
         told_fault = refl;

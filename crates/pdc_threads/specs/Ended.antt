@@ -11,7 +11,7 @@ use Rattle.pdc_pipe.specs.declared.senders.Ended.{Ended}
 use Rattle.pdc_pipe.specs.declared.senders.Ended.TheVariants as sender
 use Rattle.pdc_ports.specs.Heard.{Heard, TellsFrom}
 use Rattle.pdc_threads.specs.declared.receivers.Counted.{Counted}
-use Rattle.pdc_threads.specs.declared.telling.Totals.{Totals}
+use Rattle.pdc_threads.specs.declared.totals.Totals.{Totals}
 
 -- How a receiver ended: what it counted, and its fault, if it had one.
 pub record Ending : Type 0 where

@@ -24,7 +24,7 @@ use Rattle.pdc_row.specs.declared.output.Output.{Output}
 use Rattle.pdc_threads.specs.Ended.{AreFor}
 use Rattle.pdc_threads.specs.OneRun.{Found, IsBrought, IsOneRun}
 use Rattle.pdc_threads.specs.Run.{GivesFrom}
-use Rattle.pdc_threads.specs.declared.telling.Totals.{Totals}
+use Rattle.pdc_threads.specs.declared.totals.Totals.{Totals}
 
 -- The source of a stream gave these datagrams, in order, and so each was answered. It said nothing else but pauses, and one thing more, by
 -- which its receiver ended. They are what the stream brought.

@@ -17,7 +17,7 @@ use Rattle.pdc_pipe.specs.declared.senders.Ended.{Ended}
 use Rattle.pdc_ports.specs.Heard.{Heard}
 use Rattle.pdc_row.specs.declared.output.Output.{Output}
 use Rattle.pdc_threads.specs.Ended.{AreFor, Ending, HasEndedOf, fault_in, first_fault, first_of}
-use Rattle.pdc_threads.specs.declared.telling.Totals.{Totals}
+use Rattle.pdc_threads.specs.declared.totals.Totals.{Totals}
 
 -- What a run finds, and what it leaves: what the mark stores and how it stands, and how often the sink failed.
 pub record Found : Type 0 where

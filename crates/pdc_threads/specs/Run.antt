@@ -8,11 +8,16 @@ use Rattle.pdc_hub.specs.declared.fault.HubFault.TheVariants.{Device, SinkFault}
 use Rattle.pdc_pipe.specs.declared.message.Message.{Message}
 use Rattle.pdc_pipe.specs.Sequence.{bytes_of}
 use Rattle.pdc_ports.specs.Failures.{HasRisen}
-use Rattle.pdc_threads.specs.declared.telling.Totals.{Totals}
+use Rattle.pdc_threads.specs.declared.receivers.Counted.{Counted}
+use Rattle.pdc_threads.specs.declared.totals.Totals.{Totals}
+
+-- So many were taken and refused by these receivers together.
+abbrev pub AreSumsOf : (taken refused : ℕ) → List Counted → Type 0
+AreSumsOf taken refused receivers = (taken ≡ sum (map (λ c. c.taken) receivers)) × (refused ≡ sum (map (λ c. c.refused) receivers))
 
 -- The totals are the sums over the receivers.
 abbrev pub IsSummed : Result Totals HubFault → Type 0
-IsSummed outcome = IfOk outcome (λ t. (t.taken ≡ sum (map (λ c. c.taken) t.receivers.items)) × (t.refused ≡ sum (map (λ c. c.refused) t.receivers.items)))
+IsSummed outcome = IfOk outcome (λ t. AreSumsOf t.taken t.refused t.receivers.items)
 
 -- The instants of what was put strictly rise, lie above `low` and are at most `high`. What the sink took are the first of the frames
 -- that were put; all of them where the run was Ok, and then as many rows were published as it tells.

@@ -3,7 +3,7 @@ ghost use Rattle.std.specs.Prelude.{◌≡◌, Err};
 
 use crate::outside::Outside;
 use crate::receivers::Input;
-use crate::telling::Totals;
+use crate::totals::Totals;
 use crossbeam_channel::Pass;
 use pdc_aligner::{Aligner, Pace};
 use pdc_hub::{HubFault, Ledgers, Pops, Shares};
@@ -71,7 +71,8 @@ pub fn not_begun<N: Ledgers, M: Mark, K>(
     shares: Shares<N>,
     pops: Pops<N, M>,
 ) -> Finished<N, M, K>
-    ensures { (result.ran.publisher ≡ publisher) × (result.ran.sink ≡ sink) × (result.ran.outcome ≡ Err HubFault.NoMemory) × (result.pops ≡ pops) }
+    ensures { (result.ran.publisher ≡ publisher) × (result.ran.sink ≡ sink)
+        × (result.ran.outcome ≡ Err HubFault.NoMemory) × (result.pops ≡ pops) }
 {
     Finished {
         ran: Ran {

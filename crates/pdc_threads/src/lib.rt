@@ -9,11 +9,12 @@
 #![tactic(auto)]
 
 mod crew;
+mod delivered;
 mod laws;
 mod outside;
 mod receivers;
 mod runs;
-mod telling;
+mod totals;
 
 pub use crew::{Crew, Finished, Ran};
 pub use laws::runs_keep_headline;
@@ -30,4 +31,4 @@ pub use pdc_ports::{
 };
 pub use receivers::{Counted, Input};
 pub use runs::run;
-pub use telling::Totals;
+pub use totals::Totals;

@@ -1,10 +1,15 @@
 //! The receivers: each in a thread of its own, started and joined.
-ghost use Rattle.std.specs.Prelude.{◌≡◌, ◌≤◌, ◌<◌, ◌+◌, ◌++◌, ℕ, IfSome, List, Some, [], length, map, sum, true, vec_len};
+ghost use Rattle.std.specs.Prelude.{◌≡◌, ◌≤◌, ◌+◌, IfSome, Some, map, true, vec_len};
 ghost use mathlib.Core.List.{IsPrefix};
 ghost use Rattle.pdc_hub.specs.Counted.{HasSameAmounts};
 ghost use Rattle.pdc_hub.specs.Faults.{IsOfReceiver};
-ghost use Rattle.pdc_threads.specs.Ended.{AreFor, HasEndedAs, HaveJoined, ending_by, or_else};
+ghost use Rattle.pdc_threads.specs.Ended.{AreFor, HasEndedAs, or_else};
+ghost use Rattle.pdc_threads.specs.Served.{AllJoined, HasServed, IsPlaceAt};
+ghost use Rattle.pdc_threads.specs.Run.{AreSumsOf};
+ghost use Rattle.pdc_threads.specs.Shares.{AreMoreThan, AreParts, AreWhole, AreWholeBut};
+ghost use Rattle.pdc_threads.specs.Shares.{CountNothing, HasAmountsOf, HasPartsOf, LeaveOne};
 
+use crate::delivered::Delivered;
 use pdc_core::Core;
 use pdc_frame::MAX_SIZE;
 use pdc_hub::{HubFault, Inlet, Intake, Ledgers, Naming, Received, Shares, receive};
@@ -52,17 +57,6 @@ pub fn buffered<S: Source + Drop>(alloc: Global, sources: Vec<S>) -> Option<Vec<
     Some(inputs)
 }
 
-/// What a receiver's thread hands back: its shares, what they count, and why it ended, if by a fault.
-#[derive(Drop)]
-pub struct Delivered<N: Ledgers> {
-    shares: Shares<N>,
-    taken: u64,
-    refused: u64,
-    fault: Option<HubFault>,
-    pub ghost one_part: { (shares.taken.parts ≡ 1) × (shares.refused.parts ≡ 1) × (shares.configured.parts ≡ 1) },
-    pub ghost same: { (shares.taken.amount ≡ taken) × (shares.refused.amount ≡ refused) },
-}
-
 /// What a receiver's thread promises, of the source that it was given and the number of its stream: that all that the source told was
 /// received for this stream.
 #[derive(Drop)]
@@ -75,9 +69,9 @@ pub struct Receives<C: Core, N: Naming<C::Settings>, S> {
 }
 
 impl<C: Core, N: Naming<C::Settings>, S: Source> Promise<Delivered<N>> for Receives<C, N, S> {
-    ghost use Rattle.pdc_threads.specs.Ended.{HasEndedAs, ending_by};
+    ghost use Rattle.pdc_threads.specs.Served.{HasServed};
 
-    ghost kept_by = { λ p r. HasEndedAs C.rules N.given S.told r.shares.front p.source.value p.stream (ending_by r.taken r.refused r.shares.configured.amount r.fault) };
+    ghost kept_by = { λ p r. HasServed C.rules N.given S.told p.source.value p.stream r };
 }
 
 /// The receivers that were started, in the order of the streams.
@@ -109,10 +103,13 @@ where
     requires settings { N.settings ≡ Some intake.now.settings.now }
     requires streams { vec_len inputs ≡ C.Settings.streams intake.now.settings.now }
     requires few { vec_len inputs ≤ MAX_PMUS }
-    requires parts { (shares.old.taken.parts ≡ vec_len inputs + 1) × (shares.old.refused.parts ≡ vec_len inputs + 1) × (shares.old.configured.parts ≡ vec_len inputs + 1) }
-    requires amounts { (shares.old.taken.amount ≡ 0) × (shares.old.refused.amount ≡ 0) × (shares.old.configured.amount ≡ 0) }
-    ensures complete { result.complete ≡ true → (shares.new.taken.amount ≡ 0) × (shares.new.refused.amount ≡ 0) × (shares.new.configured.amount ≡ 0) × (shares.new.taken.parts ≡ 1) × (shares.new.refused.parts ≡ 1) × (shares.new.configured.parts ≡ 1) × (vec_len result.running ≡ vec_len inputs) }
-    ensures placed { AreFor (λ source stream handle. (handle.promise.source.value ≡ source) × (handle.promise.stream ≡ stream)) 0 (map (λ i. i.source) inputs.items) result.running.items }
+    requires parts { AreParts (vec_len inputs + 1) shares.old }
+    requires amounts { CountNothing shares.old }
+    ensures complete { result.complete ≡ true →
+        CountNothing shares.new × AreParts 1 shares.new × (vec_len result.running ≡ vec_len inputs) }
+    ensures placed { AreFor (λ source stream handle.
+        (handle.promise.source.value ≡ source) × (handle.promise.stream ≡ stream)) 0
+        (map (λ i. i.source) inputs.items) result.running.items }
 {
     let mut running = Vec::new(alloc);
     let mut complete = true;
@@ -135,8 +132,8 @@ where
         let Ok(handle) = scope.spawn_with(
             promise,
             move || -> Delivered<N>
-                requires { (N.settings ≡ Some intake.now.settings.now) × (place.stream < C.Settings.streams intake.now.settings.now) × ((place.shares.taken.parts ≡ 1) × (place.shares.refused.parts ≡ 1) × (place.shares.configured.parts ≡ 1)) × ((place.shares.taken.amount ≡ 0) × (place.shares.refused.amount ≡ 0) × (place.shares.configured.amount ≡ 0)) }
-                ensures { HasEndedAs C.rules N.given S.told result.shares.front source place.stream (ending_by result.taken result.refused result.shares.configured.amount result.fault) }
+                requires { IsPlaceAt intake.now place }
+                ensures { HasServed C.rules N.given S.told source place.stream result }
             { receive_owned(rt, alloc, intake, source, place) },
         ) else {
             complete = false;
@@ -153,11 +150,11 @@ where
 
 /// One part of each ledger, which has counted nothing.
 fn split_one<N: Ledgers>(left: &mut Shares<N>) -> Shares<N>
-    requires parts { (1 < left.old.taken.parts) × (1 < left.old.refused.parts) × (1 < left.old.configured.parts) }
-    ensures left { (left.new.taken.parts + 1 ≡ left.old.taken.parts) × (left.new.refused.parts + 1 ≡ left.old.refused.parts) × (left.new.configured.parts + 1 ≡ left.old.configured.parts) }
+    requires parts { AreMoreThan 1 left.old }
+    ensures left { LeaveOne left.old left.new }
     ensures amounts { HasSameAmounts left.old left.new }
-    ensures one { (result.taken.parts ≡ 1) × (result.refused.parts ≡ 1) × (result.configured.parts ≡ 1) }
-    ensures nothing { (result.taken.amount ≡ 0) × (result.refused.amount ≡ 0) × (result.configured.amount ≡ 0) }
+    ensures one { AreParts 1 result }
+    ensures nothing { CountNothing result }
 {
     Shares {
         taken: left.taken.split_off(1, 0),
@@ -175,11 +172,8 @@ fn receive_owned<C: Core + Drop, N: Naming<C::Settings>, S: Source + Drop, R: Wa
     source: S,
     place: Inlet<N>,
 ) -> Delivered<N>
-    requires settings { N.settings ≡ Some intake.now.settings.now }
-    requires stream { place.stream < C.Settings.streams intake.now.settings.now }
-    requires parts { (place.shares.taken.parts ≡ 1) × (place.shares.refused.parts ≡ 1) × (place.shares.configured.parts ≡ 1) }
-    requires amounts { (place.shares.taken.amount ≡ 0) × (place.shares.refused.amount ≡ 0) × (place.shares.configured.amount ≡ 0) }
-    ensures { HasEndedAs C.rules N.given S.told result.shares.front source place.stream (ending_by result.taken result.refused result.shares.configured.amount result.fault) }
+    requires { IsPlaceAt intake.now place }
+    ensures { HasServed C.rules N.given S.told source place.stream result }
 {
     let mut source = source;
     let Received {
@@ -225,14 +219,17 @@ pub fn join_all<C: Core, N: Naming<C::Settings>, S: Source, R: Threads>(
     started: Started<C, N, S>,
     shares: &mut Shares<N>,
 ) -> Joined
-    requires parts { started.complete ≡ true → (shares.old.taken.parts + vec_len started.running ≡ N.taken.parts) × (shares.old.refused.parts + vec_len started.running ≡ N.refused.parts) × (shares.old.configured.parts + vec_len started.running ≡ N.configured.parts) }
-    requires amounts { started.complete ≡ true → (shares.old.taken.amount ≡ 0) × (shares.old.refused.amount ≡ 0) × (shares.old.configured.amount ≡ 0) }
-    ensures parts { result.complete ≡ true → (shares.new.taken.parts ≡ N.taken.parts) × (shares.new.refused.parts ≡ N.refused.parts) × (shares.new.configured.parts ≡ N.configured.parts) }
+    requires parts { started.complete ≡ true →
+        AreWholeBut (vec_len started.running) N.taken N.refused N.configured shares.old }
+    requires amounts { started.complete ≡ true → CountNothing shares.old }
+    ensures parts { result.complete ≡ true → AreWhole N.taken N.refused N.configured shares.new }
     ensures started { result.complete ≡ true → started.complete ≡ true }
     ensures each { result.complete ≡ true → vec_len result.receivers ≡ vec_len started.running }
     ensures fault { IfSome result.fault IsOfReceiver }
-    ensures sums { result.complete ≡ true → (shares.new.taken.amount ≡ sum (map (λ c. c.taken) result.receivers.items)) × (shares.new.refused.amount ≡ sum (map (λ c. c.refused) result.receivers.items)) }
-    ensures ended { HaveJoined (λ handle place ending. HasEndedAs C.rules N.given S.told shares.new.front handle.promise.source.value handle.promise.stream ending) started.running.items [] result.receivers.items shares.new.configured.amount result.fault result.complete }
+    ensures sums { result.complete ≡ true →
+        AreSumsOf shares.new.taken.amount shares.new.refused.amount result.receivers.items }
+    ensures ended { AllJoined (λ handle. HasEndedAs C.rules N.given S.told shares.new.front
+        handle.promise.source.value handle.promise.stream) started.running.items shares.new result }
 {
     let Started {
         running,
@@ -263,9 +260,9 @@ pub fn join_all<C: Core, N: Naming<C::Settings>, S: Source, R: Threads>(
 
 /// Adds the shares to those joined before, which then have seen what both saw.
 fn merge<N: Ledgers>(all: &mut Shares<N>, more: Shares<N>)
-    ensures parts { (all.new.taken.parts ≡ all.old.taken.parts + more.taken.parts) × (all.new.refused.parts ≡ all.old.refused.parts + more.refused.parts) × (all.new.configured.parts ≡ all.old.configured.parts + more.configured.parts) }
+    ensures parts { HasPartsOf all.old more all.new }
     ensures seen { IsPrefix all.old.front all.new.front × IsPrefix more.front all.new.front }
-    ensures amounts { (all.new.taken.amount ≡ all.old.taken.amount + more.taken.amount) × (all.new.refused.amount ≡ all.old.refused.amount + more.refused.amount) × (all.new.configured.amount ≡ all.old.configured.amount + more.configured.amount) }
+    ensures amounts { HasAmountsOf all.old more all.new }
 {
     let Shares {
         taken,

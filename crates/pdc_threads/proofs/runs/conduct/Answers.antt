@@ -12,12 +12,22 @@ use Rattle.pdc_threads.specs.OneRun.{found_by}
 use Rattle.pdc_threads.specs.Run.{HasEach}
 use Rattle.pdc_threads.proofs.Endings.{for_all, joined_all}
 use Rattle.pdc_threads.proofs.Meetings.{came_of, one_run}
-use Rattle.pdc_threads.proofs.Outcomes.{all_complete, all_each, all_entries, all_handed_on, all_popped, all_published, begun_life, ended_or_not, none_conducted, told_of}
+use Rattle.pdc_threads.proofs.Outcomes.{all_complete, all_each, all_entries, all_handed_on, all_popped, all_published, ended_or_not, none_conducted, told_of}
 use Rattle.pdc_threads.proofs.runs.conduct.Goals as goal
 
-pub align_or_close-aligned-requires-clause-front : goal.align_or_close-aligned-requires-clause-front
-align_or_close-aligned-requires-clause-front g c =
-    let ready = c.requires.ready in (ready.begun, begun_life g.C.Core.rules g.N.Naming.given c.args.manned.aligner.pops.front ready.given ready.begun)
+pub align_or_close-aligned-requires : goal.align_or_close-aligned-requires
+align_or_close-aligned-requires g c =
+    let ready = c.requires.ready in record {
+      top = ready.top;
+      last = ready.last;
+      floor = ready.floor;
+      turns = ready.turns;
+      given = ready.given;
+      begun = ready.begun;
+      rate = ready.rate;
+      opened = ready.opened;
+      begins = ready.begins;
+    }
 
 pub returns-clause-conducted : goal.returns-clause-conducted
 returns-clause-conducted g c =
@@ -35,13 +45,13 @@ returns-clause-conducted g c =
     let counted = c.count_all-counted.ensures in
     let few : vec_len c.args.manned.inputs ≡ length sources = search (rules, length-map c.args.manned.inputs.items (λ i. i.source)) in
     let all : complete ≡ true → length joined.ended.endings ≡ length sources =
-    λ h. joined_all _ _ _ _ _ _ joined.ended ∙ (search (rules, c.start_all-started.ensures.complete (joined.started h)) ∙ few) in
+    λ h. joined_all _ _ _ _ _ _ joined.ended ∙ (search (rules, (c.start_all-started.ensures.complete (joined.started h)).2) ∙ few) in
     let popped : popped_by c.count_all-counted.new.pops ≡ popped_by aligner.pops = counted.same.counted in
     let receivers = c.outcome-outcome.ensures.receivers in
     let entries = all_entries outcome c.join_all-joined.result.receivers.items (vec_len c.join_all-joined.result.receivers) joined.ended.endings complete receivers c.outcome-outcome.ensures.entries joined.ended.entries in record {
       totals = c.outcome-outcome.ensures.totals;
       each = subst (λ n. HasEach outcome n) few (all_each outcome (vec_len c.join_all-joined.result.receivers) (vec_len c.args.manned.inputs) complete receivers
-          (λ h. joined.each h ∙ (c.start_all-started.ensures.complete (joined.started h)).6));
+          (λ h. joined.each h ∙ (c.start_all-started.ensures.complete (joined.started h)).2));
       kept = aligned.kept;
       sink = λ e. cause (c.outcome-outcome.ensures.sink e);
       popped = rw popped (all_popped outcome c.align_or_close-aligned.result (popped_by old.pops) (popped_by aligner.pops) put c.outcome-outcome.ensures.published aligned.published aligned.all);

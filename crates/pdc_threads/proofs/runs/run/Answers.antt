@@ -12,7 +12,7 @@ returns-in_default-clause-sent g c =
     let sink = c.args.crew.sink in
     let h = none_conducted g.C.Core.rules (g.C.Settings.Reads.says c.args.settings.now) g.N.Naming.given g.W.Source.Source.told c.args.crew.sources.items c.args.crew.pace g.W.Ticker.Ticker.gave c.args.crew.ticker
     (output_in p) (lead_in p) (last_in p) (popped_by c.args.crew.pops) (g.W.Mark.Mark.stored (mark_in p)) (standing_of p) (g.W.Sink.Sink.failures_of sink) (g.W.Sink.Sink.failures_of sink) [] false AlignerGone
-    refl (nothing_sent (g.W.Sink.Sink.nothing sink)) (search rules) c.requires.top.3 in
+    refl (nothing_sent (g.W.Sink.Sink.nothing sink)) (search rules) c.requires.floor in
     rw (c.not_begun.ensures.0, c.not_begun.ensures.1, c.not_begun.ensures.2) h.run
 
 pub returns-in_default-clause-one : goal.returns-in_default-clause-one
@@ -21,7 +21,7 @@ returns-in_default-clause-one g c =
     let sink = c.args.crew.sink in
     let h = none_conducted g.C.Core.rules (g.C.Settings.Reads.says c.args.settings.now) g.N.Naming.given g.W.Source.Source.told c.args.crew.sources.items c.args.crew.pace g.W.Ticker.Ticker.gave c.args.crew.ticker
     (output_in p) (lead_in p) (last_in p) (popped_by c.args.crew.pops) (g.W.Mark.Mark.stored (mark_in p)) (standing_of p) (g.W.Sink.Sink.failures_of sink) (g.W.Sink.Sink.failures_of sink) [] false AlignerGone
-    refl (nothing_sent (g.W.Sink.Sink.nothing sink)) (search rules) c.requires.top.3 in
+    refl (nothing_sent (g.W.Sink.Sink.nothing sink)) (search rules) c.requires.floor in
     rw (c.not_begun.ensures.0, c.not_begun.ensures.1, c.not_begun.ensures.2) h.one
 
 pub returns-in_default-channel-clause-sent : goal.returns-in_default-channel-clause-sent
@@ -30,7 +30,7 @@ returns-in_default-channel-clause-sent g c =
     let sink = c.args.crew.sink in
     let h = none_conducted g.C.Core.rules (g.C.Settings.Reads.says c.args.settings.now) g.N.Naming.given g.W.Source.Source.told c.args.crew.sources.items c.args.crew.pace g.W.Ticker.Ticker.gave c.args.crew.ticker
     (output_in p) (lead_in p) (last_in p) (popped_by c.args.crew.pops) (g.W.Mark.Mark.stored (mark_in p)) (standing_of p) (g.W.Sink.Sink.failures_of sink) (g.W.Sink.Sink.failures_of sink) [] false AlignerGone
-    refl (nothing_sent (g.W.Sink.Sink.nothing sink)) (search rules) c.requires.top.3 in
+    refl (nothing_sent (g.W.Sink.Sink.nothing sink)) (search rules) c.requires.floor in
     rw (c.not_begun-in_default-channel.ensures.0, c.not_begun-in_default-channel.ensures.1, c.not_begun-in_default-channel.ensures.2) h.run
 
 pub returns-in_default-channel-clause-one : goal.returns-in_default-channel-clause-one
@@ -39,5 +39,5 @@ returns-in_default-channel-clause-one g c =
     let sink = c.args.crew.sink in
     let h = none_conducted g.C.Core.rules (g.C.Settings.Reads.says c.args.settings.now) g.N.Naming.given g.W.Source.Source.told c.args.crew.sources.items c.args.crew.pace g.W.Ticker.Ticker.gave c.args.crew.ticker
     (output_in p) (lead_in p) (last_in p) (popped_by c.args.crew.pops) (g.W.Mark.Mark.stored (mark_in p)) (standing_of p) (g.W.Sink.Sink.failures_of sink) (g.W.Sink.Sink.failures_of sink) [] false AlignerGone
-    refl (nothing_sent (g.W.Sink.Sink.nothing sink)) (search rules) c.requires.top.3 in
+    refl (nothing_sent (g.W.Sink.Sink.nothing sink)) (search rules) c.requires.floor in
     rw (c.not_begun-in_default-channel.ensures.0, c.not_begun-in_default-channel.ensures.1, c.not_begun-in_default-channel.ensures.2) h.one

@@ -1,5 +1,5 @@
 //! What a run counted, and which fault it tells of.
-ghost use Rattle.std.specs.Prelude.{◌≡◌, ◌<◌, ◌+◌, Bool, IfErr, IfOk, IfSome, IsErrOf, Ok, OnOk, map, sum, true, vec_len};
+ghost use Rattle.std.specs.Prelude.{◌≡◌, IfErr, IfOk, IfSome, IsErrOf, Ok, OnOk, true, vec_len};
 ghost use Rattle.pdc_aligner.specs.Device.{IsOfAligner};
 ghost use mathlib.Core.List.{IsPrefix};
 ghost use Rattle.pdc_hub.specs.Counted.{HasSameAmounts, HasSameParts};
@@ -8,7 +8,8 @@ ghost use Rattle.pdc_hub.specs.Pops.{HasPoppedNone};
 ghost use Rattle.pdc_hub.specs.Replay.{AreSaid, WasRead};
 ghost use Rattle.pdc_log.specs.Log.{HasLooked, came_in};
 ghost use Rattle.pdc_threads.specs.Ended.{fault_in, first_fault};
-ghost use Rattle.pdc_threads.specs.Run.{IsSummed};
+ghost use Rattle.pdc_threads.specs.Run.{AreSumsOf, IsSummed};
+ghost use Rattle.pdc_threads.specs.Shares.{AreWhole, HasTurns, all_counted};
 
 use crate::receivers::{Counted, Joined};
 use pdc_core::Core;
@@ -34,10 +35,11 @@ pub fn count_all<C: Core + Drop, N: Naming<C::Settings>, M, R: Wait>(
     shares: &mut Shares<N>,
     pops: &mut Pops<N, M>,
 ) -> Counted
-    requires turns { (pops.old.turns.parts ≡ N.turns.parts) × (0 < pops.old.turns.parts) }
-    requires parts { complete ≡ true → (shares.old.taken.parts ≡ N.taken.parts) × (shares.old.refused.parts ≡ N.refused.parts) × (shares.old.configured.parts ≡ N.configured.parts) }
-    ensures counted { complete ≡ true → (result.taken ≡ shares.old.taken.amount) × (result.refused ≡ shares.old.refused.amount) }
-    ensures came { complete ≡ true → came_in pops.new.front ≡ (shares.old.taken.amount + shares.old.refused.amount) + shares.old.configured.amount }
+    requires turns { HasTurns N.turns pops.old }
+    requires parts { complete ≡ true → AreWhole N.taken N.refused N.configured shares.old }
+    ensures counted { complete ≡ true →
+        (result.taken ≡ shares.old.taken.amount) × (result.refused ≡ shares.old.refused.amount) }
+    ensures came { complete ≡ true → came_in pops.new.front ≡ all_counted shares.old }
     ensures kept { HasSameAmounts shares.old shares.new × HasSameParts shares.old shares.new }
     ensures same { HasPoppedNone pops.old pops.new }
     ensures looked { HasLooked pops.old.front pops.new.front }
@@ -65,12 +67,15 @@ pub fn outcome(
     ended: Ended,
     counted: Counted,
 ) -> Result<Totals, HubFault>
-    requires sums { joined.complete ≡ true → (counted.taken ≡ sum (map (λ c. c.taken) joined.receivers.items)) × (counted.refused ≡ sum (map (λ c. c.refused) joined.receivers.items)) }
+    requires sums { joined.complete ≡ true →
+        AreSumsOf counted.taken counted.refused joined.receivers.items }
     requires receiver { IfSome joined.fault IsOfReceiver }
     requires aligner { IfErr aligned IsOfAligner }
     ensures totals { IsSummed result }
-    ensures counted { IfOk result (λ totals. (counted.taken ≡ totals.taken) × (counted.refused ≡ totals.refused)) }
-    ensures receivers { IfOk result (λ totals. (vec_len totals.receivers ≡ vec_len joined.receivers) × (joined.complete ≡ true)) }
+    ensures counted { IfOk result (λ totals.
+        (counted.taken ≡ totals.taken) × (counted.refused ≡ totals.refused)) }
+    ensures receivers { IfOk result (λ totals.
+        (vec_len totals.receivers ≡ vec_len joined.receivers) × (joined.complete ≡ true)) }
     ensures ended { OnOk result (ended ≡ Ended.AtEndMark) }
     ensures published { IfOk result (λ totals. aligned ≡ Ok totals.published) }
     ensures sink { IsErrOf result HubFault.SinkFault → ended ≡ Ended.SinkFault }
