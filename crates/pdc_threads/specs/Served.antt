@@ -1,7 +1,7 @@
 -- How the receivers' threads begin and end.
 use Rattle.std.specs.Prelude.{◌≡◌, ◌<◌, ℕ, List, [], Option, Some}
 use Rattle.pdc_hub.specs.declared.intake.Intake.{Intake}
-use Rattle.pdc_hub.specs.declared.intake.Place.{Place}
+use Rattle.pdc_hub.specs.declared.intake.Inlet.{Inlet}
 use Rattle.pdc_hub.specs.declared.shares.Shares.{Shares}
 use Rattle.pdc_life.specs.Answer.{Rules}
 use Rattle.pdc_life.specs.Given.{Given}
@@ -12,7 +12,7 @@ use Rattle.pdc_threads.specs.declared.delivered.Delivered.{Delivered}
 use Rattle.pdc_threads.specs.declared.receivers.Joined.{Joined}
 
 -- The settings of the intake are those that are named, and it has the stream of this place, whose share is one part that has counted nothing.
-abbrev pub IsPlaceAt : {C N S : Type 0} {core : _} {reads : _} {naming : _} {ledgers : _} {logged : _} → Intake C N S core reads naming ledgers logged → Place N → Type 0
+abbrev pub IsPlaceAt : {C N S : Type 0} {core : _} {reads : _} {naming : _} {ledgers : _} {logged : _} → Intake C N S core reads naming ledgers logged → Inlet N → Type 0
 IsPlaceAt {reads = reads} {naming = naming} intake place =
     (naming.settings ≡ Some intake.settings.now) × (place.stream < reads.streams intake.settings.now) × AreParts 1 place.shares × CountNothing place.shares
 
