@@ -19,6 +19,7 @@ mod hearing;
 mod histogram;
 mod journal;
 mod left_out;
+mod lines;
 mod measured;
 mod missing;
 mod moment;
