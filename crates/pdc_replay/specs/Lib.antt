@@ -1,1 +1,3 @@
+pub mod Begun
+pub mod Passed
 pub mod Unkept
