@@ -1,5 +1,5 @@
 -- The lines that wait to be printed.
-use Rattle.std.specs.Prelude.{◌≡◌, refl, ℕ, ◌+◌, ◌-◌, ◌^◌, Bool, true, false, List, [], ◌∷◌, ◌++◌, Option, None, Some, length, replicate, min, nat_lt, if◌then◌else◌}
+use Rattle.std.specs.Prelude.{◌≡◌, refl, ℕ, ◌+◌, ◌-◌, ◌^◌, Bool, List, [], ◌∷◌, ◌++◌, Option, None, Some, length, replicate, min, nat_lt, if◌then◌else◌}
 use Rattle.pdc_journal.specs.declared.lines.TheConstants.{MOST_WAITING}
 
 -- what waits behind a line that is told: it is the last one, where there is one and not 256 wait already

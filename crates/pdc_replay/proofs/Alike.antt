@@ -16,7 +16,7 @@ pub frame_of_life : {A B : Type 0} (r : Result A B) (recorded : Option (Bor (Lis
     row.instant < SECONDS * said.rate → OnOk r (IsFrameOf recorded (wire_of said row))
 frame_of_life r recorded frame row written said is e h =
     subst (λ (it : Option (Bor (List ℕ))). row.instant < SECONDS * said.rate → OnOk r (IsFrameOf it (wire_of said row))) (sym is)
-      (subst (λ (o : Output). row.instant < SECONDS * o.rate → OnOk r (frame.now ≡ wire_of o row)) e h)
+    (subst (λ (o : Output). row.instant < SECONDS * o.rate → OnOk r (frame.now ≡ wire_of o row)) e h)
 
 -- the layout is dated as the recorded one
 pub layout_of_life : {A B : Type 0} (r : Result A B) (recorded wire : List ℕ) (g : Given) (E : List Entry) (soc second : ℕ) →

@@ -70,7 +70,8 @@ impl<C: Begins> Replay<C> {
         // It is at the start of the life that is given so much by these settings, and its next step has this number.
         ensures settings { IfOk result (λ replay. C.says_settings text.entry.now (⟦<Replay<C> as Plays>⟧.settings_of replay)) }
         ensures stands { IfOk result (λ replay. ⟦<Replay<C> as Plays>⟧.stands_for replay
-                (C.begun_with (⟦<Replay<C> as Plays>⟧.settings_of replay) begun.entry.now.start begun.entry.now.floor begun.entry.now.counts begun.entry.now.now) []) }
+            (C.begun_with (⟦<Replay<C> as Plays>⟧.settings_of replay)
+            begun.entry.now.start begun.entry.now.floor begun.entry.now.counts begun.entry.now.now) []) }
         ensures next { IfOk result (λ replay. ⟦<Replay<C> as Plays>⟧.next_of replay ≡ step) }
     {
         let life = Replayed::begin(alloc, begun, text)?;
@@ -176,7 +177,7 @@ impl<C: Begins> Replay<C> {
     fn play_step(&mut self, entry: &Entry<'_>) -> Result<(), Halt>
         ensures as_recorded { (g : Given) (E : List LifeEntry) → C.stands_for self.old.life.core g E →
             is_carried entry.now self.old.next ≡ false → OnOk result (Passes C.rules
-                (C.Settings.says (C.settings_of self.old.life.core)) g E (C.stands_for self.new.life.core g) entry.now.what) }
+            (C.Settings.says (C.settings_of self.old.life.core)) g E (C.stands_for self.new.life.core g) entry.now.what) }
         ensures next { is_carried entry.now self.old.next ≡ false → OnOk result (entry.now.step ≡ self.old.next) }
         ensures after { is_carried entry.now self.old.next ≡ false → OnOk result (self.new.next ≡ behind self.old.next) }
         ensures settings { C.settings_of self.new.life.core ≡ C.settings_of self.old.life.core }

@@ -115,12 +115,7 @@ impl<C: Begins> Replayed<C> {
             return Err(Halt::Differs { step, what });
         }
         if let Some(change) = recorded.change {
-            keep_layout(
-                &self.core,
-                change,
-                &mut self.wire,
-                &mut self.layouts,
-            )?;
+            keep_layout(&self.core, change, &mut self.wire, &mut self.layouts)?;
         }
         Ok(())
     }
@@ -135,7 +130,7 @@ impl<C: Begins> Replayed<C> {
     ) -> Result<(), Halt>
         ensures as_recorded { (g : Given) (E : List LifeEntry) → C.stands_for self.old.core g E →
             OnOk result (PassesArrival C.rules (C.Settings.says (C.settings_of self.old.core)) g E
-                (C.stands_for self.new.core g) stream recorded datagram.now) }
+            (C.stands_for self.new.core g) stream recorded datagram.now) }
         ensures settings { C.settings_of self.new.core ≡ C.settings_of self.old.core }
     {
         match arrive(&mut self.core, stream, recorded, datagram) {
@@ -255,7 +250,7 @@ impl<C: Begins> Replayed<C> {
     pub fn carry(&mut self, what: &What<'_>) -> Result<bool, AllocError>
         ensures as_recorded { (g : Given) (E : List LifeEntry) → C.stands_for self.old.core g E →
             IfOk result (λ is_as_it_was. is_as_it_was ≡ true →
-                Passes C.rules (C.Settings.says (C.settings_of self.old.core)) g E (C.stands_for self.new.core g) (carried_as what.now)) }
+            Passes C.rules (C.Settings.says (C.settings_of self.old.core)) g E (C.stands_for self.new.core g) (carried_as what.now)) }
         ensures settings { C.settings_of self.new.core ≡ C.settings_of self.old.core }
     {
         match what {
@@ -280,12 +275,7 @@ impl<C: Begins> Replayed<C> {
                     return Ok(false);
                 }
                 if let Some(change) = change {
-                    keep_layout(
-                        &self.core,
-                        *change,
-                        &mut self.wire,
-                        &mut self.layouts,
-                    )?;
+                    keep_layout(&self.core, *change, &mut self.wire, &mut self.layouts)?;
                 }
                 Ok(true)
             }

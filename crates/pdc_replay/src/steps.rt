@@ -23,6 +23,7 @@ use std::alloc::{AllocError, Global};
 
 /// The place of SOC in a frame, in bytes, and where it ends.
 const SOC_PLACE: usize = 6;
+
 const SOC_END: usize = 10;
 
 /// The bytes, kept.
