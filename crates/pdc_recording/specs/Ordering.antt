@@ -1,5 +1,5 @@
 -- Entries in the order of their numbers.
-use Rattle.std.specs.Prelude.{◌≡◌, refl, ℕ, ◌+◌, ◌*◌, ◌-◌, ◌^◌, ◌/◌, ◌%◌, ◌==◌, ◌&&◌, Bool, true, List, [], ◌∷◌, Option, None, Some, min, nat_lt, nat_le, not, if◌then◌else◌}
+use Rattle.std.specs.Prelude.{◌≡◌, refl, ℕ, ◌+◌, ◌*◌, ◌-◌, ◌^◌, ◌/◌, ◌%◌, ◌==◌, ◌&&◌, Bool, true, false, List, [], ◌∷◌, Option, None, Some, min, nat_lt, nat_le, not, if◌then◌else◌}
 use Rattle.pdc_record.specs.declared.entry.What.{What}
 use Rattle.pdc_record.specs.declared.entry.What.TheVariants as what
 use Rattle.pdc_recording.specs.declared.ordering.TheConstants.{MOST_HELD}
