@@ -1,3 +1,2 @@
-pub mod Begun
 pub mod Passed
 pub mod Unkept

@@ -42,10 +42,7 @@ impl From<SettingsFault> for Unbegun {
 
 /// A core on which a record is played.
 pub trait Begins: Opens {
-    // A text may say these settings,
-    ghost says_settings: { List ℕ → Self.Settings → Type 0 };
-
-    // and with them, a start, a floor, counts and what counts as now this is given to a life.
+    // What is given to a life by the settings, and by a start, a floor, counts and what counts as now until the first tick.
     ghost begun_with: { Self.Settings → (start floor : ℕ) → (counts : List ℕ) → (now : ℕ) → Given };
 
     /// One at the start of the life that a record begins with, whose settings are this text.
@@ -54,7 +51,6 @@ pub trait Begins: Opens {
     ///
     /// The text is no settings, or those of another id or rate, or there is no memory.
     fn begin(alloc: Global, begun: &Begun<'_>, text: &str) -> Result<Self, Unbegun>
-        ensures settings { IfOk result (λ core. says_settings text.entry.now (Self.settings_of core)) }
         ensures stands { IfOk result (λ core. Self.stands_for core (begun_with (Self.settings_of core)
             begun.entry.now.start begun.entry.now.floor begun.entry.now.counts begun.entry.now.now) []) }
         ensures popped { IfOk result (λ core. Self.popped_of core ≡ begun.entry.now.floor) };
@@ -66,9 +62,6 @@ pub trait Begins: Opens {
 
 impl<T: Table> Begins for Node<T> {
     ghost use Rattle.pdc_life.specs.CoreKind.{OfNode, given_of};
-    ghost use Rattle.pdc_replay.specs.Begun.{SaysLifeOfNode};
-
-    ghost says_settings = { SaysLifeOfNode };
 
     ghost begun_with = { λ settings. given_of (OfNode settings) };
 
@@ -95,9 +88,6 @@ impl<T: Table> Begins for Node<T> {
 
 impl<T: Table> Begins for Merger<T> {
     ghost use Rattle.pdc_life.specs.CoreKind.{OfMerger, given_of};
-    ghost use Rattle.pdc_replay.specs.Begun.{SaysLifeOfMerger};
-
-    ghost says_settings = { SaysLifeOfMerger };
 
     ghost begun_with = { λ settings. given_of (OfMerger settings) };
 

@@ -67,8 +67,7 @@ impl<C: Begins> Replay<C> {
         step: u64,
         text: &str,
     ) -> Result<Replay<C>, Unbegun>
-        // It is at the start of the life that is given so much by these settings, and its next step has this number.
-        ensures settings { IfOk result (λ replay. C.says_settings text.entry.now (⟦<Replay<C> as Plays>⟧.settings_of replay)) }
+        // It is at the start of the life that is given so much by its settings, and its next step has this number.
         ensures stands { IfOk result (λ replay. ⟦<Replay<C> as Plays>⟧.stands_for replay
             (C.begun_with (⟦<Replay<C> as Plays>⟧.settings_of replay)
             begun.entry.now.start begun.entry.now.floor begun.entry.now.counts begun.entry.now.now) []) }

@@ -52,7 +52,6 @@ impl<C: Begins> Replayed<C> {
     ///
     /// Why it cannot be begun so.
     pub fn begin(alloc: Global, begun: &Begun<'_>, text: &str) -> Result<Replayed<C>, Unbegun>
-        ensures settings { IfOk result (λ life. C.says_settings text.entry.now (C.settings_of life.core)) }
         ensures stands { IfOk result (λ life. C.stands_for life.core
             (C.begun_with (C.settings_of life.core) begun.entry.now.start begun.entry.now.floor begun.entry.now.counts begun.entry.now.now) []) }
     {
