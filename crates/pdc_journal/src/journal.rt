@@ -1,6 +1,6 @@
 //! Lines on their way to standard error.
 
-use circular_buffer::HeapCircularBuffer;
+use crate::lines::{Lines, Turn};
 use jiff::Timestamp;
 use std::alloc::{AllocError, Global};
 use std::rt::Clock;
@@ -8,29 +8,8 @@ use std::sync::{Mutex, Wait};
 use std::thread;
 use std::time::Duration;
 
-/// How many lines wait at most.
-const MOST_WAITING: usize = 256;
-
 /// How long nobody looks for a line after there was none, in milliseconds.
 const PAUSE: u64 = 20;
-
-/// The lines that wait.
-#[derive(Drop)]
-struct Lines {
-    waiting: HeapCircularBuffer<String>,
-    /// How many were dropped since that was told last.
-    dropped: u64,
-    is_closed: bool,
-}
-
-/// What is to be printed next.
-#[derive(Drop)]
-enum Turn {
-    Line(String),
-    Dropped(u64),
-    Nothing,
-    End,
-}
 
 /// The lines that a run tells of itself, each with the time at its front, as `2026-11-24T17:05:09Z PMU 12 sends again`. Whoever tells one
 /// waits for nothing but a short lock: it is printed by the thread that runs [`Journal::print_all`]. At most 256 wait; what does not fit is
@@ -60,11 +39,7 @@ impl Journal {
     ///
     /// [`AllocError`] where there is no memory for the queue.
     pub fn new(alloc: Global, is_quiet: bool) -> Result<Journal, AllocError> {
-        let lines = Lines {
-            waiting: HeapCircularBuffer::with_capacity(alloc, MOST_WAITING)?,
-            dropped: 0,
-            is_closed: false,
-        };
+        let lines = Lines::new(alloc)?;
         Ok(Journal {
             alloc,
             is_quiet,
@@ -75,14 +50,7 @@ impl Journal {
     /// Tells what was asked for or is a fault. A text that is lacking for want of memory counts as dropped.
     pub fn tell<R: Wait + Clock>(&self, rt: &R, text: Result<String, AllocError>) {
         let line = text.and_then(|text| line_of(rt, self.alloc, &text));
-        let mut lines = self.lines.lock(rt);
-        let is_put = match line {
-            Ok(line) => lines.waiting.try_push_back(line).is_ok(),
-            Err(_) => false,
-        };
-        if !is_put {
-            lines.dropped = lines.dropped.saturating_add(1);
-        }
+        self.lines.lock(rt).put(line.ok());
     }
 
     /// Tells what is no fault, where it is not to be quiet.
@@ -94,25 +62,12 @@ impl Journal {
 
     /// No more lines will be told.
     pub fn close<R: Wait>(&self, rt: &R) {
-        self.lines.lock(rt).is_closed = true;
+        self.lines.lock(rt).close();
     }
 
-    /// What is to be printed next: the line that waits longest, and how many were dropped once none waits.
+    /// Takes out what is to be printed next. The lock is not held while it is printed.
     fn turn<R: Wait>(&self, rt: &R) -> Turn {
-        let mut lines = self.lines.lock(rt);
-        if let Some(line) = lines.waiting.pop_front() {
-            return Turn::Line(line);
-        }
-        let dropped = lines.dropped;
-        if dropped > 0 {
-            lines.dropped = 0;
-            return Turn::Dropped(dropped);
-        }
-        if lines.is_closed {
-            Turn::End
-        } else {
-            Turn::Nothing
-        }
+        self.lines.lock(rt).turn()
     }
 
     /// Prints the lines on standard error as they come, until the journal is closed and all are printed. Where standard error cannot be

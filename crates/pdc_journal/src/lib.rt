@@ -7,7 +7,8 @@
 //! those who ask.
 //!
 //! The promise to the layers above: none of them changes what it is put around. A source gives what the inner one gave, a sink is handed
-//! what the inner one is, a ticker ticks as the inner one does; what becomes of the lines no clause says.
+//! what the inner one is, a ticker ticks as the inner one does. Lines wait in the order in which they are told, and each comes out
+//! once; that they are printed no clause says.
 #![tactic(auto)]
 
 mod announcing_sink;
@@ -19,6 +20,7 @@ mod hearing;
 mod histogram;
 mod journal;
 mod left_out;
+mod lines;
 mod measured;
 mod missing;
 mod moment;

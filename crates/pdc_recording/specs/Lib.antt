@@ -1,5 +1,9 @@
 pub mod Carrying
+pub mod Files
+pub mod Gathered
 pub mod Kept
 pub mod Lives
 pub mod Lost
+pub mod Ordering
+pub mod Queue
 pub mod Room

@@ -12,10 +12,13 @@
 
 mod carried;
 mod carrying;
+mod files;
+mod gathered;
 mod kept;
 mod lives;
 mod lost;
 mod ordering;
+mod queue;
 mod recorded_source;
 mod recorded_ticker;
 mod recording;

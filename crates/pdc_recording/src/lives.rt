@@ -2,6 +2,7 @@
 ghost use Rattle.std.specs.Prelude.{◌≡◌, ◌≤◌, length};
 ghost use Rattle.pdc_recording.specs.Lives.{is_removed, newer_than};
 
+use crate::files::{FileNumber, is_over, remove_file};
 use crate::series::{Series, name_of};
 use crate::shelf::Shelf;
 use pdc_journal::Journal;
@@ -17,15 +18,6 @@ const LEN: u64 = 4;
 /// The longest entry.
 const MOST: u64 = 1_048_664;
 
-/// A file of a record.
-#[derive(Clone, Copy, Debug)]
-struct Found {
-    /// The number of its life's start.
-    start: u32,
-    /// Its own.
-    number: u32,
-}
-
 /// Whose records are looked for: what their names begin with, and what the life begins with that is to go on.
 #[derive(Clone, Copy)]
 struct Sought<'a> {
@@ -33,6 +25,21 @@ struct Sought<'a> {
     role: Role,
     id: u16,
     start: u32,
+    /// The number of the file that is written.
+    number: u32,
+}
+
+impl Sought<'_> {
+    /// The file that is written.
+    fn written(&self) -> FileNumber
+        ensures start { result.start ≡ self.now.start }
+        ensures number { result.number ≡ self.now.number }
+    {
+        FileNumber {
+            start: self.start,
+            number: self.number,
+        }
+    }
 }
 
 /// How many of these starts, which stand with the greatest first, are greater than this one.
@@ -62,10 +69,10 @@ fn folder_of(name: &str) -> (&str, &str) {
 }
 
 /// The file of a record with this name, where it is one of those that begin so.
-fn found_in(alloc: Global, last: &str, sought: &str) -> Option<Found> {
+fn found_in(alloc: Global, last: &str, sought: &str) -> Option<FileNumber> {
     let numbers = last.strip_prefix(sought)?.strip_prefix('.')?;
     let (start, number) = numbers.split_once('.')?;
-    let found = Found {
+    let found = FileNumber {
         start: start.parse::<u32>().ok()?,
         number: number.parse::<u32>().ok()?,
     };
@@ -111,7 +118,7 @@ fn is_own_file<R: Shelf>(
 }
 
 /// The files of records of this owner's lives before this one.
-fn found_by<R: Shelf>(rt: &R, alloc: Global, sought: &Sought<'_>) -> io::Result<Vec<Found>> {
+fn found_by<R: Shelf>(rt: &R, alloc: Global, sought: &Sought<'_>) -> io::Result<Vec<FileNumber>> {
     let (folder, begins) = folder_of(sought.name);
     let names = rt.names(alloc, folder)?;
     let mut files = Vec::new(alloc);
@@ -134,7 +141,7 @@ fn found_by<R: Shelf>(rt: &R, alloc: Global, sought: &Sought<'_>) -> io::Result<
 }
 
 /// The starts of these files' lives, each once, the greatest first.
-fn starts_of(alloc: Global, files: &[Found]) -> Result<Vec<u32>, AllocError> {
+fn starts_of(alloc: Global, files: &[FileNumber]) -> Result<Vec<u32>, AllocError> {
     let mut starts: Vec<u32> = Vec::new(alloc);
     for file in files {
         if !starts.contains(&file.start) {
@@ -173,19 +180,21 @@ fn tell_kept<R: Wait + Clock>(
 fn remove_files<R: Wait + Clock + Shelf>(
     rt: &R,
     alloc: Global,
-    name: &str,
-    files: &[Found],
+    sought: &Sought<'_>,
+    files: &[FileNumber],
     kept: u32,
     journal: &Journal,
 ) -> Result<u64, AllocError> {
     let starts = starts_of(alloc, files)?;
     let mut removed = 0u64;
     for file in files {
-        if is_removed(kept, starts.as_slice(), file.start) {
-            let path = name_of(alloc, name, file.start, file.number)?;
-            match rt.remove(path.as_str()) {
+        if is_over(kept, starts.as_slice(), file.start, sought.start) {
+            match remove_file(rt, alloc, sought.name, *file, Some(sought.written())) {
                 Ok(()) => removed = removed.saturating_add(1),
-                Err(error) => tell_kept(rt, alloc, journal, path.as_str(), &error),
+                Err(error) => {
+                    let path = name_of(alloc, sought.name, file.start, file.number)?;
+                    tell_kept(rt, alloc, journal, path.as_str(), &error);
+                }
             }
         }
     }
@@ -201,7 +210,7 @@ fn remove_sought<R: Wait + Clock + Shelf>(
     journal: &Journal,
 ) -> io::Result<u64> {
     let files = found_by(rt, alloc, sought)?;
-    Ok(remove_files(rt, alloc, sought.name, files.as_slice(), kept, journal)?)
+    Ok(remove_files(rt, alloc, sought, files.as_slice(), kept, journal)?)
 }
 
 /// Removes the files of lives that are over and are not to stay, where that is asked for: those that have the name of this record's files, and
@@ -221,6 +230,7 @@ pub fn remove_over<R: Wait + Clock + Shelf>(
         role: begun.role,
         id: begun.id,
         start: begun.start,
+        number: series.number(),
     };
     match remove_sought(rt, alloc, &sought, kept, journal) {
         Ok(0) => {}

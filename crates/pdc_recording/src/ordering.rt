@@ -1,6 +1,11 @@
 //! Entries in the order of their numbers.
+ghost use Rattle.std.specs.Prelude.{◌≡◌, ◌⊎◌, None, Some, false, length, true};
+ghost use Rattle.std.specs.BTreeMap.{insert_entry};
+ghost use Rattle.std.specs.Ordering.{nat_cmp};
+ghost use Rattle.pdc_recording.specs.Ordering.{held_behind, is_awaited, is_let_through, key_of, next_behind, ready_of};
+ghost use Rattle.pdc_recording.specs.declared.ordering.Ready.TheVariants.{Bytes};
 
-use crate::recording::{Position, Waiting};
+use crate::queue::{Position, Waiting};
 use crate::room::MOST_BYTES;
 use std::alloc::Global;
 use std::collections::BTreeMap;
@@ -53,7 +58,15 @@ impl Ordering {
     }
 
     /// Takes an entry, and gives it back where it is to be written at once.
-    pub fn take(&mut self, waiting: Waiting) -> Option<Vec<u8>> {
+    pub fn take(&mut self, waiting: Waiting) -> Option<Vec<u8>>
+        ensures let_through { is_let_through waiting.place self.old.next ≡ true →
+            (result ≡ Some waiting.bytes) × (self.new.held.entries ≡ self.old.held.entries) }
+        // For want of memory it is lacking.
+        ensures held { is_let_through waiting.place self.old.next ≡ false →
+            (result ≡ None) × ((self.new.held.entries ≡ insert_entry nat_cmp self.old.held.entries (key_of waiting.place) waiting.bytes)
+            ⊎ (self.new.held.entries ≡ self.old.held.entries)) }
+        ensures next { self.new.next ≡ self.old.next }
+    {
         let Waiting { place, bytes } = waiting;
         let (step, behind) = match place {
             Position::Step(step) => (step, 0),
@@ -71,7 +84,13 @@ impl Ordering {
 
     /// What is to be written next; none where it is not there yet, and is waited for. Where it is given up, or too many wait for it, the
     /// gap is told.
-    pub fn ready(&mut self, gives_up: bool) -> Option<Ready> {
+    pub fn ready(&mut self, gives_up: bool) -> Option<Ready>
+        ensures answer { result ≡ ready_of self.old.held.entries self.old.next
+            (is_awaited gives_up (length self.old.held.entries) self.old.bytes) Bytes }
+        ensures held { self.new.held.entries ≡ held_behind self.old.held.entries self.old.next }
+        ensures next { self.new.next ≡ next_behind self.old.held.entries self.old.next
+            (is_awaited gives_up (length self.old.held.entries) self.old.bytes) }
+    {
         let (first, _) = self.held.first_key_value()?;
         let step = *first / 2;
         if step > self.next {

@@ -1,62 +1,16 @@
 //! Entries on their way to a record.
+ghost use Rattle.std.specs.Prelude.{◌≡◌, IfSome};
+ghost use Rattle.pdc_record.specs.Entries.{spelling_of};
+ghost use Rattle.pdc_record.specs.Told.{fields_of};
+ghost use Rattle.pdc_recording.specs.Ordering.{place_of};
 
 use crate::carrying::is_lasting;
-use crate::room::has_room;
+use crate::queue::{Position, Queue, Turn, Waiting};
 use crate::written::Written;
-use circular_buffer::HeapCircularBuffer;
 use pdc_record::{Entry, What, entry_len, write_entry};
 use std::alloc::{AllocError, Global};
 use std::sync::atomic::{AtomicBool, Ordering};
 use std::sync::{Mutex, Wait};
-
-/// How many entries wait at most,
-const MOST_WAITING: usize = 16384;
-
-/// and beside them how many that are carried over for the whole life,
-const MOST_LASTING: usize = 1024;
-
-/// for which so many bytes are reserved: 8 MiB.
-const RESERVED: usize = 8_388_608;
-
-/// Where an entry belongs.
-#[derive(Clone, Copy, Debug, PartialEq, Eq)]
-pub enum Position {
-    /// It is the step with this number.
-    Step(u64),
-    /// It comes behind the step with this number, and before the next one.
-    Behind(u64),
-    /// Anywhere.
-    Anywhere,
-}
-
-/// An entry that waits to be written.
-#[derive(Drop)]
-pub struct Waiting {
-    /// Where it belongs.
-    pub place: Position,
-    /// Its bytes.
-    pub bytes: Vec<u8>,
-}
-
-/// What comes out of a recording next.
-#[derive(Drop)]
-pub enum Turn {
-    /// The entry that waits longest.
-    Entry(Waiting),
-    /// None waits.
-    Nothing,
-    /// None waits, and none will come.
-    End,
-}
-
-/// The entries that wait.
-#[derive(Drop)]
-struct Queue {
-    waiting: HeapCircularBuffer<Waiting>,
-    /// How many bytes they have.
-    bytes: usize,
-    is_closed: bool,
-}
 
 /// The entries of a life that are to be written down. Whoever notes one waits for nothing but a short lock. At most 16384 wait, of 32 MiB at
 /// most; what does not fit is lacking in the record. 1024 more may wait of configurations that were held and of ticks that adopted, and 8 MiB
@@ -72,7 +26,9 @@ pub struct Recording {
 }
 
 /// Where an entry belongs.
-fn place_of(entry: &Entry<'_>) -> Position {
+fn place_of(entry: &Entry<'_>) -> Position
+    ensures { result ≡ place_of entry.now.what entry.now.step }
+{
     match entry.what {
         What::Arrived { .. }
         | What::NoFrame { .. }
@@ -84,30 +40,14 @@ fn place_of(entry: &Entry<'_>) -> Position {
     }
 }
 
-/// The bytes of an entry.
-fn bytes_of(alloc: Global, entry: &Entry<'_>) -> Option<Vec<u8>> {
+/// The bytes of an entry; none where it is too long, or there is no memory.
+fn bytes_of(alloc: Global, entry: &Entry<'_>) -> Option<Vec<u8>>
+    ensures { IfSome result (λ bytes. bytes.items ≡ spelling_of (fields_of entry.now)) }
+{
     let mut bytes = Vec::with_capacity(alloc, entry_len(entry)).ok()?;
     match write_entry(entry, &mut bytes) {
         Ok(()) => Some(bytes),
         Err(_) => None,
-    }
-}
-
-impl Queue {
-    /// Adds an entry, and answers whether there was room.
-    fn add(&mut self, waiting: Waiting, is_lasting: bool) -> bool {
-        let len = waiting.bytes.len();
-        let has_place = is_lasting || self.waiting.len() < MOST_WAITING;
-        let beside = if is_lasting {
-            self.bytes
-        } else {
-            self.bytes.saturating_add(RESERVED)
-        };
-        if !has_place || !has_room(beside, len) || self.waiting.try_push_back(waiting).is_err() {
-            return false;
-        }
-        self.bytes = self.bytes.saturating_add(len);
-        true
     }
 }
 
@@ -118,11 +58,7 @@ impl Recording {
     ///
     /// [`AllocError`] where there is no memory for the queue.
     pub fn new(alloc: Global) -> Result<Recording, AllocError> {
-        let queue = Queue {
-            waiting: HeapCircularBuffer::with_capacity(alloc, MOST_WAITING + MOST_LASTING)?,
-            bytes: 0,
-            is_closed: false,
-        };
+        let queue = Queue::new(alloc)?;
         Ok(Recording {
             alloc,
             written: Written::new(),
@@ -158,19 +94,11 @@ impl Recording {
 
     /// No more entries will be noted.
     pub fn close<R: Wait>(&self, rt: &R) {
-        self.queue.lock(rt).is_closed = true;
+        self.queue.lock(rt).close();
     }
 
     /// What comes out next.
     pub fn turn<R: Wait>(&self, rt: &R) -> Turn {
-        let mut queue = self.queue.lock(rt);
-        match queue.waiting.pop_front() {
-            Some(waiting) => {
-                queue.bytes = queue.bytes.saturating_sub(waiting.bytes.len());
-                Turn::Entry(waiting)
-            }
-            None if queue.is_closed => Turn::End,
-            None => Turn::Nothing,
-        }
+        self.queue.lock(rt).turn()
     }
 }

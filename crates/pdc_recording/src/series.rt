@@ -1,16 +1,18 @@
 //! The files of a record.
+ghost use Rattle.std.specs.Prelude.{◌≡◌, ◌<◌, ◌++◌, IfOk, OnOk};
+ghost use Rattle.pdc_record.specs.Entries.{spelling_of};
+ghost use Rattle.pdc_record.specs.Told.{fields_of};
 
 use crate::carried::Carried;
 use crate::carrying::begins_next;
+use crate::files::{FileNumber, old_of, remove_file};
+use crate::gathered::{Gathered, count_of};
 use crate::shelf::Shelf;
 use pdc_record::{Begun, Entry, What, write_entry};
 use std::alloc::{AllocError, Global};
 use std::fs::File;
 use std::io;
 use std::io::{ErrorKind, Write};
-
-/// How many bytes are gathered before they are written, unless a pause comes first.
-const GATHERED: usize = 65536;
 
 /// How large the files of a record grow, and how many of them stay.
 #[derive(Clone, Copy, Debug, PartialEq, Eq)]
@@ -33,11 +35,9 @@ pub struct Series<'a> {
     begun: Begun<'a>,
     /// The number of the file that is written, from 1.
     number: u32,
-    file: File,
-    /// How many bytes it has, and how many with those that are gathered.
-    written: u64,
+    file: Gathered<File>,
+    /// How many bytes it has, with those that are gathered.
     len: u64,
-    gathered: Vec<u8>,
     /// The first step that is not in a file, nor among those that a file says are lacking.
     next: u64,
 }
@@ -64,15 +64,10 @@ fn open_numbered<R: Shelf>(
     rt.make(path.as_str())
 }
 
-/// Removes the file of this number, if it can be.
-fn remove_numbered<R: Shelf>(rt: &R, alloc: Global, name: &str, start: u32, number: u32) {
-    if let Ok(path) = name_of(alloc, name, start, number) {
-        let _removed = rt.remove(path.as_str());
-    }
-}
-
 /// Appends an entry.
-fn append_entry(entry: &Entry<'_>, out: &mut Vec<u8>) -> io::Result<()> {
+fn append_entry(entry: &Entry<'_>, out: &mut Vec<u8>) -> io::Result<()>
+    ensures { OnOk result (out.new.items ≡ out.old.items ++ spelling_of (fields_of entry.now)) }
+{
     match write_entry(entry, out) {
         Ok(()) => Ok(()),
         Err(_) => Err(no_memory()),
@@ -88,11 +83,6 @@ fn head_of<'a>(begun: &Begun<'a>, step: u64, time: u64) -> Entry<'a> {
     }
 }
 
-/// How many bytes there are.
-fn count_of(bytes: &[u8]) -> u64 {
-    u64::try_from(bytes.len()).unwrap_or(u64::MAX)
-}
-
 /// Makes the first file, with these bytes.
 fn make_first<R: Shelf>(
     rt: &R,
@@ -105,7 +95,8 @@ fn make_first<R: Shelf>(
     match file.write_all(head) {
         Ok(()) => Ok(file),
         Err(error) => {
-            remove_numbered(rt, alloc, name, start, 1);
+            let gone = FileNumber { start, number: 1 };
+            let _removed = remove_file(rt, alloc, name, gone, None);
             Err(error)
         }
     }
@@ -136,10 +127,8 @@ impl<'a> Series<'a> {
             limits,
             begun,
             number: 1,
-            file,
-            written,
+            file: Gathered::new(file, written, head),
             len: written,
-            gathered: head,
             next: 0,
         })
     }
@@ -147,6 +136,11 @@ impl<'a> Series<'a> {
     /// The name of the file that is written.
     pub fn path(&self) -> Result<String, AllocError> {
         name_of(self.alloc, self.name, self.begun.start, self.number)
+    }
+
+    /// The number of the file that is written.
+    pub fn number(&self) -> u32 {
+        self.number
     }
 
     /// What the names of the files begin with.
@@ -170,21 +164,38 @@ impl<'a> Series<'a> {
     ///
     /// The file cannot be written.
     pub fn flush(&mut self, next: u64) -> io::Result<u64> {
-        self.file.write_all(self.gathered.as_slice())?;
-        let more = count_of(self.gathered.as_slice());
-        self.gathered.clear();
-        self.written = self.written.saturating_add(more);
+        let more = self.file.flush()?;
         self.next = next;
         Ok(more)
     }
 
-    /// Removes the file that is not to stay beside the one with this number.
+    /// The file that is written.
+    fn file_number(&self) -> FileNumber
+        ensures start { result.start ≡ self.now.begun.start }
+        ensures number { result.number ≡ self.now.number }
+    {
+        FileNumber {
+            start: self.begun.start,
+            number: self.number,
+        }
+    }
+
+    /// The number of the file behind the one that is written.
+    fn next_number(&self) -> io::Result<u32>
+        ensures { IfOk result (λ number. self.now.number < number) }
+    {
+        match self.number.checked_add(1) {
+            Some(number) => Ok(number),
+            None => Err(io::Error::from(ErrorKind::AlreadyExists)),
+        }
+    }
+
+    /// Removes the file that is not to stay beside the one that is written.
     fn remove_old<R: Shelf>(&self, rt: &R) {
-        if let Some(keep) = self.limits.keep {
-            if self.number > keep {
-                let number = self.number - keep;
-                remove_numbered(rt, self.alloc, self.name, self.begun.start, number);
-            }
+        let written = self.file_number();
+        if let Some(number) = old_of(self.limits.keep, written.number) {
+            let gone = FileNumber { number, ..written };
+            let _removed = remove_file(rt, self.alloc, self.name, gone, Some(written));
         }
     }
 
@@ -219,12 +230,13 @@ impl<'a> Series<'a> {
         carried: &Carried,
     ) -> io::Result<u64> {
         let more = self.flush(step)?;
-        let number = self.number.saturating_add(1);
-        self.file = open_numbered(rt, self.alloc, self.name, self.begun.start, number)?;
+        let number = self.next_number()?;
+        let file = open_numbered(rt, self.alloc, self.name, self.begun.start, number)?;
+        self.file = Gathered::new(file, 0, Vec::new(self.alloc));
         self.number = number;
-        self.written = 0;
-        self.gathered = self.front_of(step, time, carried)?;
-        self.len = count_of(self.gathered.as_slice());
+        let front = self.front_of(step, time, carried)?;
+        self.len = count_of(front.as_slice());
+        self.file.begin_with(front);
         self.remove_old(rt);
         Ok(more)
     }
@@ -236,12 +248,12 @@ impl<'a> Series<'a> {
     ///
     /// The file cannot be written, or there is no memory.
     pub fn append(&mut self, bytes: &[u8], step: u64) -> io::Result<u64> {
-        let written = if self.gathered.len() >= GATHERED {
+        let written = if self.file.is_full() {
             self.flush(step)?
         } else {
             0
         };
-        if self.gathered.extend_from_slice(bytes).is_err() {
+        if self.file.add(bytes).is_err() {
             return Err(no_memory());
         }
         self.len = self.len.saturating_add(count_of(bytes));
@@ -273,12 +285,13 @@ impl<'a> Series<'a> {
     /// Gives up the file that is written: what was not written whole is taken away from it, and a file of which nothing was is removed.
     /// Answers the first step that the record lacks.
     pub fn give_up<R: Shelf>(&mut self, rt: &R) -> u64 {
-        self.gathered.clear();
-        if self.written == 0 {
-            remove_numbered(rt, self.alloc, self.name, self.begun.start, self.number);
+        self.file.forget();
+        if self.file.is_empty() {
+            let gone = self.file_number();
+            let _removed = remove_file(rt, self.alloc, self.name, gone, None);
             self.number = self.number.saturating_sub(1);
         } else {
-            let _cut = self.file.set_len(self.written);
+            self.file.cut();
         }
         self.next
     }
@@ -301,16 +314,17 @@ impl<'a> Series<'a> {
             (Some(until), None) => self.front_behind(until, time)?,
             _ => self.front_of(next, time, carried)?,
         };
-        let number = self.number.saturating_add(1);
+        let number = self.next_number()?;
         let mut file = open_numbered(rt, alloc, self.name, self.begun.start, number)?;
         if let Err(error) = file.write_all(front.as_slice()) {
-            remove_numbered(rt, alloc, self.name, self.begun.start, number);
+            let before = self.file_number();
+            let gone = FileNumber { number, ..before };
+            let _removed = remove_file(rt, alloc, self.name, gone, Some(before));
             return Err(error);
         }
         let more = count_of(front.as_slice());
-        self.file = file;
+        self.file = Gathered::new(file, more, Vec::new(alloc));
         self.number = number;
-        self.written = more;
         self.len = more;
         self.next = next;
         self.remove_old(rt);

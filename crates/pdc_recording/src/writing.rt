@@ -1,10 +1,14 @@
 //! A record is written, by a thread of its own.
+ghost use Rattle.std.specs.Prelude.{◌≡◌, IfOk};
+ghost use Rattle.pdc_record.specs.Entries.{spelling_of};
+ghost use Rattle.pdc_record.specs.Told.{Missing};
 
 use crate::carried::Carried;
 use crate::lives::remove_over;
 use crate::lost::{PAUSE as LOST_PAUSE, gap_between, is_tried};
 use crate::ordering::{Ordering, Ready};
-use crate::recording::{Recording, Turn};
+use crate::queue::Turn;
+use crate::recording::Recording;
 use crate::series::Series;
 use crate::shelf::Shelf;
 use crate::time::nanoseconds_now;
@@ -69,7 +73,9 @@ fn again_text(
 }
 
 /// The bytes of the entry that steps are missing.
-fn gap_bytes(alloc: Global, from: u64, until: u64, time: u64) -> io::Result<Vec<u8>> {
+fn gap_bytes(alloc: Global, from: u64, until: u64, time: u64) -> io::Result<Vec<u8>>
+    ensures { IfOk result (λ bytes. bytes.items ≡ spelling_of (record { step = from; time = time; told = Missing until })) }
+{
     let entry = Entry {
         step: from,
         time,

@@ -1,5 +1,6 @@
 //! Cores on which a record is played.
-ghost use Rattle.std.specs.Prelude.{◌≡◌, IfOk};
+ghost use Rattle.std.specs.Prelude.{◌≡◌, ℕ, [], IfOk, List};
+ghost use Rattle.pdc_life.specs.Given.{Given};
 
 use pdc_core::{Core, Opens};
 use pdc_merge::Merger;
@@ -41,13 +42,18 @@ impl From<SettingsFault> for Unbegun {
 
 /// A core on which a record is played.
 pub trait Begins: Opens {
+    // What is given to a life by the settings, and by a start, a floor, counts and what counts as now until the first tick.
+    ghost begun_with: { Self.Settings → (start floor : ℕ) → (counts : List ℕ) → (now : ℕ) → Given };
+
     /// One at the start of the life that a record begins with, whose settings are this text.
     ///
     /// # Errors
     ///
     /// The text is no settings, or those of another id or rate, or there is no memory.
     fn begin(alloc: Global, begun: &Begun<'_>, text: &str) -> Result<Self, Unbegun>
-        ensures { IfOk result (λ core. Self.popped_of core ≡ begun.entry.now.floor) };
+        ensures stands { IfOk result (λ core. Self.stands_for core (begun_with (Self.settings_of core)
+            begun.entry.now.start begun.entry.now.floor begun.entry.now.counts begun.entry.now.now) []) }
+        ensures popped { IfOk result (λ core. Self.popped_of core ≡ begun.entry.now.floor) };
 
     /// How many streams arrive.
     fn streams(&self) -> usize
@@ -55,6 +61,10 @@ pub trait Begins: Opens {
 }
 
 impl<T: Table> Begins for Node<T> {
+    ghost use Rattle.pdc_life.specs.CoreKind.{OfNode, given_of};
+
+    ghost begun_with = { λ settings. given_of (OfNode settings) };
+
     fn begin(alloc: Global, begun: &Begun<'_>, text: &str) -> Result<Node<T>, Unbegun> {
         let settings = NodeSettings::from_toml(alloc, text)?.life;
         if settings.output.id.value != begun.id || settings.output.rate != begun.rate {
@@ -77,6 +87,10 @@ impl<T: Table> Begins for Node<T> {
 }
 
 impl<T: Table> Begins for Merger<T> {
+    ghost use Rattle.pdc_life.specs.CoreKind.{OfMerger, given_of};
+
+    ghost begun_with = { λ settings. given_of (OfMerger settings) };
+
     fn begin(alloc: Global, begun: &Begun<'_>, text: &str) -> Result<Merger<T>, Unbegun> {
         let settings = MergerSettings::from_toml(alloc, text)?.life;
         if settings.output.id.value != begun.id || settings.output.rate != begun.rate {

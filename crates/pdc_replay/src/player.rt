@@ -2,6 +2,7 @@
 
 use crate::begins::Unbegun;
 use crate::halt::Halt;
+use crate::plays::Plays;
 use crate::replay::Replay;
 use crate::seen::SeenRow;
 use crate::unplayed::Unplayed;

@@ -64,3 +64,16 @@ pub(crate) fn layout_of(change: u32, bytes: &[u8]) -> Layout {
     }
     Layout { change, sections }
 }
+
+/// Lets the layouts go of which no row is to come, where the last one was of this change number.
+pub(crate) fn drop_layouts(layouts: &mut Vec<Layout>, change: u32) {
+    let count = layouts
+        .iter()
+        .take_while(|layout| layout.change < change)
+        .count();
+    for _ in 0..count {
+        if !layouts.is_empty() {
+            layouts.remove(0);
+        }
+    }
+}
