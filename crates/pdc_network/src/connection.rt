@@ -2,6 +2,7 @@
 ghost use Rattle.std.specs.Prelude.{◌≡◌, ◌≤◌, ◌<◌, ◌++◌, ◌∷◌, ℕ, IfOk, IfSome, List, None, OnErr, [], length, map};
 ghost use Rattle.pdc_frame.specs.declared.limits.TheConstants.{MAX_SIZE};
 ghost use Rattle.pdc_ports.specs.Heard.{Gave, Heard, heard_by};
+ghost use Rattle.pdc_session.specs.pdc_memory.Asking.{SomeWasRefused};
 
 use crate::addresses::Addresses;
 use crate::dial::Dial;
@@ -86,6 +87,8 @@ fn is_slow<R: Clock>(rt: &R, begun: &mut Option<Moment>) -> bool {
 }
 
 impl<'a, R: Net<Listener = TcpListener, Stream = TcpStream> + Clock + Wait> Connection<'a, R> {
+    ghost use Rattle.pdc_network.specs.Linked.{IsFreshConnection};
+
     /// The frames of the stream `id`, over a connection to one of these addresses that is not made yet, with what counts for it.
     ///
     /// # Errors
@@ -98,7 +101,10 @@ impl<'a, R: Net<Listener = TcpListener, Stream = TcpStream> + Clock + Wait> Conn
         tally: &'a Tally,
         id: StreamId,
         to: Addresses,
-    ) -> Result<Connection<'a, R>, AllocError> {
+    ) -> Result<Connection<'a, R>, AllocError>
+        ensures fresh { IfOk result (λ connection. IsFreshConnection ⟦<TcpDialer<'a, R> as Dial>⟧.dialed connection) }
+        ensures refused { OnErr result SomeWasRefused }
+    {
         Connection::by(rt, alloc, journal, tally, id, to, TcpDialer::new(rt))
     }
 }
@@ -109,7 +115,7 @@ impl<
     D: Dial + Drop,
 > Connection<'a, R, D> {
     ghost use Rattle.pdc_network.specs.Came.{fits_in, frame_in, frames_in};
-    ghost use Rattle.pdc_network.specs.Linked.{CanEnd, IsHeardOver};
+    ghost use Rattle.pdc_network.specs.Linked.{CanEnd, IsFreshConnection, IsHeardOver};
 
     /// The same, over connections that this dialer makes.
     ///
@@ -124,7 +130,13 @@ impl<
         id: StreamId,
         to: Addresses,
         dialer: D,
-    ) -> Result<Connection<'a, R, D>, AllocError> {
+    ) -> Result<Connection<'a, R, D>, AllocError>
+        // By a dialer of which nothing was asked yet it said nothing.
+        ensures fresh { D.dialed dialer [] → IfOk result (λ connection. IsFreshConnection D.dialed connection) }
+        ensures silent { D.dialed dialer []
+            → IfOk result (λ connection. IsHeardOver D.dialed D.Stream.remaining D.Stream.contents connection []) }
+        ensures refused { OnErr result SomeWasRefused }
+    {
         Ok(Connection {
             rt,
             alloc,

@@ -1,6 +1,6 @@
 //! The frames of a stream, however they come.
-ghost use Rattle.std.specs.Prelude.{◌≡◌, ◌≢◌, ◌≤◌, ◌<◌, ℕ, false, length, true};
-ghost use Rattle.pdc_ports.specs.Heard.{heard_by};
+ghost use Rattle.std.specs.Prelude.{◌≡◌, ◌≢◌, ◌≤◌, ◌<◌, ℕ, List, [], false, length, true};
+ghost use Rattle.pdc_ports.specs.Heard.{Heard, heard_by};
 ghost use Rattle.pdc_network.specs.Limit.{most_of};
 ghost use Rattle.pdc_network.specs.Passing.{IsLeftOut};
 
@@ -40,8 +40,13 @@ impl<
     S: Receive + Drop,
     D: Dial + Drop,
 > Link<'a, R, S, D> {
+    ghost use Rattle.pdc_network.specs.Linked.{IsFreshConnection, IsFreshLink, IsFreshPort, IsHeardAt, IsHeardOver, limit_of};
+
     /// They come to this port.
-    pub fn at(port: Port<'a, R, S>) -> Link<'a, R, S, D> {
+    pub fn at(port: Port<'a, R, S>) -> Link<'a, R, S, D>
+        ensures fresh { IsFreshPort S.received port.entry → IsFreshLink S.received D.dialed result }
+        ensures tells { (heard : List Heard) → IsHeardAt S.received port.entry heard → ⟦<Link<'a, R, S, D> as Source>⟧.told result heard }
+    {
         Link {
             way: Way::Datagrams(port),
             limit: None,
@@ -51,7 +56,11 @@ impl<
     }
 
     /// They come over this connection.
-    pub fn over(connection: Connection<'a, R, D>) -> Link<'a, R, S, D> {
+    pub fn over(connection: Connection<'a, R, D>) -> Link<'a, R, S, D>
+        ensures fresh { IsFreshConnection D.dialed connection.entry → IsFreshLink S.received D.dialed result }
+        ensures tells { (heard : List Heard) → IsHeardOver D.dialed D.Stream.remaining D.Stream.contents connection.entry heard
+            → ⟦<Link<'a, R, S, D> as Source>⟧.told result heard }
+    {
         Link {
             way: Way::Stream(connection),
             limit: None,
@@ -61,7 +70,12 @@ impl<
     }
 
     /// Leaves out what this limit leaves out, if there is one.
-    pub fn set_limit(&mut self, limit: Option<CountLimit<'a, R>>) {
+    pub fn set_limit(&mut self, limit: Option<CountLimit<'a, R>>)
+        ensures limit { limit_of self.new ≡ most_of limit.entry }
+        ensures fresh { IsFreshLink S.received D.dialed self.old → IsFreshLink S.received D.dialed self.new }
+        // Where nothing came by its way yet it said nothing, whatever the limit is.
+        ensures silent { IsFreshLink S.received D.dialed self.old → ⟦<Link<'a, R, S, D> as Source>⟧.told self.new [] }
+    {
         self.limit = limit;
     }
 

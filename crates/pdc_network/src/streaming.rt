@@ -1,6 +1,5 @@
 //! What is done with the stream of a connection.
 ghost use Rattle.std.specs.Prelude.{◌≡◌, ◌≤◌, ℕ, List, [], ◌++◌, IfOk, Ok, OnErr, false, length};
-ghost use Rattle.pdc_frame.specs.Stream.{Held, IsBad};
 ghost use Rattle.pdc_frame.specs.declared.limits.TheConstants.{MAX_SIZE};
 ghost use Rattle.pdc_session.specs.Counting.{inner_of};
 ghost use Rattle.pdc_network.specs.Streamed.{BringsBytes, BringsNothing, HasRun, IsDone, TakesFront};
@@ -110,7 +109,8 @@ pub(crate) fn take<S: Read + Write>(
     requires { MAX_SIZE ≤ length buffer.old }
     ensures kept { length buffer.new ≡ length buffer.old }
     ensures fits { IfOk result (λ came. fits_in came (length buffer.new)) }
-    ensures runs { (id : ℕ) (made : S) (frames : List (List ℕ)) → HasRun S.remaining S.contents id made (inner_of stream.old) framer.old unread.old frames
+    ensures runs { (id : ℕ) (made : S) (frames : List (List ℕ))
+        → HasRun S.remaining S.contents id made (inner_of stream.old) framer.old unread.old frames
         → HasRun S.remaining S.contents id made (inner_of stream.new) framer.new unread.new (frames ++ frames_in result buffer.new) }
     ensures done { frames_in result buffer.new ≡ [] → IsDone framer.new unread.new }
 {

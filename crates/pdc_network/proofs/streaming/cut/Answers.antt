@@ -1,4 +1,4 @@
-use Rattle.std.proofs.Common.{[], ◌∷◌, ◌∙◌, ap, drop, length}
+use Rattle.std.proofs.Common.{[], ◌∙◌, ap, drop, length}
 use Rattle.pdc_frame.specs.Stream.{given_at}
 use Rattle.pdc_frame.specs.declared.step.Step.{Step}
 use Rattle.pdc_network.proofs.Running.{copied_front, takes_front}
