@@ -29,8 +29,8 @@ abbrev pub MayEnd : {T : Type 0} (now : Option T) → Held → (unread : List �
 MayEnd None held unread = Unit {0}
 MayEnd (Some now) held unread = IsDone held unread
 
--- The dialer's calls were these, and what was heard is exactly the frames that came of the streams that they made: once each, in order, stream
--- by stream, with pauses anywhere. That a stream ended or failed, or was not made, is a pause.
+-- The dialer's calls were these, and what was heard is exactly the frames that came of the streams that they made: once each, in order,
+-- stream by stream, with pauses anywhere. That a stream ended or failed, or was not made, is a pause.
 pub record HasGivenAll {D T : Type 0} (dialed : D → List (Dialed T) → Type 0) (remaining contents : T → Option (List ℕ)) (id : ℕ) (dialer : D) (now : Option T) (held : Held) (unread : List ℕ) (heard : List Heard) : Type 0 where
   pub calls : List (Dialed T)
   pub are_all : dialed dialer calls

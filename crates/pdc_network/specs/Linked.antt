@@ -35,7 +35,7 @@ abbrev pub IsHeardOver : {R D T : Type 0} (dialed : D → List (Dialed T) → Ty
 IsHeardOver dialed remaining contents connection heard =
     HasGivenAll dialed remaining contents connection.id.value connection.dialer (stream_of connection) connection.framer connection.unread heard
 
--- If its stream is let go, no byte of it is that was read and could be taken.
+-- Its stream may be let go: of the bytes that were read of it none is left to take.
 abbrev pub CanEnd : {R D T : Type 0} → Connection R D T → Type 0
 CanEnd connection = MayEnd (stream_of connection) connection.framer connection.unread
 

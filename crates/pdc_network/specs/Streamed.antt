@@ -32,8 +32,8 @@ WereDone remaining contents id before now [] = now ≡ before
 WereDone {T} remaining contents id before now (turn ∷ turns) =
     (between : T) × WasDone remaining contents id before between turn × WereDone remaining contents id between now turns
 
--- The stream was made so, and by these turns it became what it is. Of the bytes that were read of it, in order, a framer took those in front,
--- and these frames are exactly the ones that end in them. The others are unread.
+-- The stream was made so, and by these turns it became what it is. Of the bytes that were read of it, in order, a framer took those in
+-- front, and these frames are exactly the ones that end in them. The others are unread.
 pub record HasRun {T : Type 0} (remaining contents : T → Option (List ℕ)) (id : ℕ) (made now : T) (held : Held) (unread : List ℕ) (frames : List (List ℕ)) : Type 0 where
   pub turns : List Turn
   pub are_all : WereDone remaining contents id made now turns

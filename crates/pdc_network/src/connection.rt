@@ -263,7 +263,7 @@ impl<
         }
     }
 
-    /// What comes next. Of a buffer that has no room for the longest frame nothing is written, and no byte is taken for it.
+    /// What comes next. Where the buffer has no room for the longest frame, no byte is taken, and nothing comes.
     pub fn next(&mut self, buffer: &mut [u8]) -> Next
         ensures kept { length buffer.new ≡ length buffer.old }
         ensures datagram { (n : ℕ) → result ≡ Next.Datagram n → n ≤ length buffer.new }

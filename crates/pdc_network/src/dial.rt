@@ -6,8 +6,8 @@ use std::io;
 use std::io::{Read, Write};
 use std::net::SocketAddr;
 
-/// From where connections are made. It may tell its calls: where `dialed dialer calls`, they were exactly these, in order, with the stream that
-/// each made, or why it made none. One that tells nothing, as the system's, says that of any.
+/// From where connections are made. It may tell its calls: where `dialed dialer calls`, they were exactly these, in order, with the stream
+/// that each made, or why it made none. One that tells nothing, as the system's, says that of any.
 pub trait Dial {
     /// What a connection is read and written by.
     type Stream: Read + Write + Drop;

@@ -7,8 +7,9 @@
 //! is the whole command over any source and writer: it returns once so many datagrams have come, or at the source's end or first fault.
 //!
 //! [`Link`] is how a concentrator comes by the frames of a stream: at a UDP port, from anybody or from one address alone, asked for or
-//! not; or over a TCP connection, as most PMUs serve it, and as the sessions of a node are. A connection that is lost is no failure: it
-//! is told, counted, and made anew. Configurations above a [`CountLimit`] it leaves out.
+//! not; or over a TCP connection, as most PMUs serve it, and as the sessions of a node are. A connection is made by any [`Dial`], and gives
+//! the frames of the bytes that were read of its streams, once, in order. One that is lost is no failure: it is told, counted, and made
+//! anew. Configurations above a [`CountLimit`] a link leaves out.
 #![tactic(auto)]
 
 mod addresses;

@@ -45,7 +45,8 @@ impl<
     /// They come to this port.
     pub fn at(port: Port<'a, R, S>) -> Link<'a, R, S, D>
         ensures fresh { IsFreshPort S.received port.entry → IsFreshLink S.received D.dialed result }
-        ensures tells { (heard : List Heard) → IsHeardAt S.received port.entry heard → ⟦<Link<'a, R, S, D> as Source>⟧.told result heard }
+        ensures tells { (heard : List Heard) → IsHeardAt S.received port.entry heard
+            → ⟦<Link<'a, R, S, D> as Source>⟧.told result heard }
     {
         Link {
             way: Way::Datagrams(port),

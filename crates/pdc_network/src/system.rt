@@ -1,5 +1,5 @@
-//! The system's own sockets and connections. That these calls do what the traits say of them is trusted: their lists are the system's, which no
-//! clause sees.
+//! The system's own sockets and connections. That these calls do what the traits say of them is trusted: their lists are the system's,
+//! which no clause sees.
 ghost use Rattle.std.specs.Prelude.{List, ℕ};
 
 use crate::dial::Dial;
