@@ -12,7 +12,7 @@ use Rattle.pdc_ports.specs.Heard.{Heard, Gave, Idled}
 use Rattle.pdc_network.specs.Connected.{HasGivenAll, IsLast, MayEnd}
 use Rattle.pdc_network.specs.Dialed.{Dialed, made_of}
 use Rattle.pdc_network.specs.Received.{unless_idle}
-use Rattle.pdc_network.specs.Streamed.{BringsNothing, HasRun, HaveEnded, IsDone}
+use Rattle.pdc_network.specs.Streamed.{BringsNothing, HasRun, HaveEnded, IsDone, WasLetGo}
 use Rattle.pdc_network.proofs.Running.{ended_more, ends, run_begins}
 
 -- frames, as they are heard
@@ -70,14 +70,14 @@ module _ {D T : Type 0} (dialed : D → List (Dialed T) → Type 0) (remaining c
   -- A stream was made, and ended before anything came.
   pub failed : (dialer later : D) (held new fresh : Held) (unread left : List ℕ) (heard : List Heard) (to : SocketAddr) (one now : T)
       → ((calls : List (Dialed T)) → dialed dialer calls → dialed later (calls ++ record { to = to; answer = Ok one } ∷ []))
-      → HasRun remaining contents id one now fresh [] []
+      → HasRun remaining contents id one now fresh [] [] → WasLetGo now
       → HasGivenAll dialed remaining contents id dialer None held unread heard → HasGivenAll dialed remaining contents id later None new left heard
-  failed dialer later held new fresh unread left heard to one now tells run has = record {
+  failed dialer later held new fresh unread left heard to one now tells run gone has = record {
     calls = has.calls ++ record { to = to; answer = Ok one } ∷ [];
     are_all = tells has.calls has.are_all;
     frames = has.frames ++ [] ∷ [];
     have_come = subst (λ made. HaveEnded remaining contents id made (has.frames ++ [] ∷ [])) (sym (made_more has.calls (record { to = to; answer = Ok one })))
-        (ended_more remaining contents id (flat_map made_of has.calls) has.frames one [] has.have_come (ends remaining contents id one now fresh [] [] run (inl refl)));
+        (ended_more remaining contents id (flat_map made_of has.calls) has.frames one [] has.have_come (ends remaining contents id one now fresh [] [] run (inl refl) gone));
     same = has.same ∙ ap (map Gave) (sym (joined-last has.frames [] ∙ append-nil (joined has.frames)));
   }
 
@@ -104,9 +104,9 @@ module _ {D T : Type 0} (dialed : D → List (Dialed T) → Type 0) (remaining c
   }
 
   -- The stream is let go.
-  pub lost : (dialer : D) (now : T) (held new : Held) (unread left : List ℕ) (heard : List Heard) → IsDone held unread
+  pub lost : (dialer : D) (now : T) (held new : Held) (unread left : List ℕ) (heard : List Heard) → IsDone held unread → WasLetGo now
       → HasGivenAll dialed remaining contents id dialer (Some now) held unread heard → HasGivenAll dialed remaining contents id dialer None new left heard
-  lost dialer now held new unread left heard done has =
+  lost dialer now held new unread left heard done gone has =
       let last : IsLast remaining contents id (flat_map made_of has.calls) now held unread has.frames = has.have_come in
       record {
         calls = has.calls;
@@ -114,7 +114,7 @@ module _ {D T : Type 0} (dialed : D → List (Dialed T) → Type 0) (remaining c
         frames = has.frames;
         have_come = subst (λ made. HaveEnded remaining contents id made has.frames) (sym last.in_order)
             (subst (λ frames. HaveEnded remaining contents id (last.others ++ last.one ∷ []) frames) (sym last.one_by_one)
-            (ended_more remaining contents id last.others last.before last.one last.latest last.have_ended (ends remaining contents id last.one now held unread last.latest last.has_run done)));
+            (ended_more remaining contents id last.others last.before last.one last.latest last.have_ended (ends remaining contents id last.one now held unread last.latest last.has_run done gone)));
         same = has.same;
       }
 
@@ -157,11 +157,11 @@ module _ {D T : Type 0} (dialed : D → List (Dialed T) → Type 0) (remaining c
   -- The same of a connection that may have a stream: one that has none and fails to make one,
   pub fails_to_open : (dialer later : D) (now : Option T) (held : Held) (unread : List ℕ) (to : SocketAddr) (one made last : T) → now ≡ None
       → ((calls : List (Dialed T)) → dialed dialer calls → dialed later (calls ++ record { to = to; answer = Ok one } ∷ []))
-      → made ≡ one → BringsNothing remaining contents id made last → (heard : List Heard)
+      → made ≡ one → BringsNothing remaining contents id made last → WasLetGo last → (heard : List Heard)
       → HasGivenAll dialed remaining contents id dialer now held unread heard → HasGivenAll dialed remaining contents id later now held unread heard
-  fails_to_open dialer later now held unread to one made last none tells same brings heard has =
+  fails_to_open dialer later now held unread to one made last none tells same brings gone heard has =
       subst (λ (s : Option T). HasGivenAll dialed remaining contents id later s held unread heard) (sym none)
-      (failed dialer later held held no_bytes unread unread heard to one last tells (begins one made last no_bytes same brings nothing_taken)
+      (failed dialer later held held no_bytes unread unread heard to one last tells (begins one made last no_bytes same brings nothing_taken) gone
       (subst (λ (s : Option T). HasGivenAll dialed remaining contents id dialer s held unread heard) none has))
 
   -- one that has none and makes one,
@@ -182,8 +182,10 @@ module _ {D T : Type 0} (dialed : D → List (Dialed T) → Type 0) (remaining c
   goes_on dialer now before later held new unread left more some runs heard has =
       went_on dialer before later held new unread left heard more runs (subst (λ (s : Option T). HasGivenAll dialed remaining contents id dialer s held unread heard) some has)
 
-  -- and one that lets its stream go, if it has one.
-  pub lets_go : (dialer : D) (now : Option T) (held : Held) (unread : List ℕ) → MayEnd now held unread → (heard : List Heard)
-      → HasGivenAll dialed remaining contents id dialer now held unread heard → HasGivenAll dialed remaining contents id dialer None held unread heard
-  lets_go dialer None held unread may heard has = has
-  lets_go dialer (Some now) held unread may heard has = lost dialer now held held unread unread heard may has
+  -- and one that lets its stream go.
+  pub lets_go : (dialer : D) (now later : Option T) (last : T) (held : Held) (unread : List ℕ) → now ≡ Some last → later ≡ None → MayEnd now held unread → WasLetGo last
+      → (heard : List Heard) → HasGivenAll dialed remaining contents id dialer now held unread heard → HasGivenAll dialed remaining contents id dialer later held unread heard
+  lets_go dialer now later last held unread some none may gone heard has =
+      subst (λ (s : Option T). HasGivenAll dialed remaining contents id dialer s held unread heard) (sym none)
+      (lost dialer last held held unread unread heard (subst (λ (s : Option T). MayEnd s held unread) some may) gone
+      (subst (λ (s : Option T). HasGivenAll dialed remaining contents id dialer s held unread heard) some has))

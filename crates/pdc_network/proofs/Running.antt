@@ -10,7 +10,7 @@ use Rattle.pdc_frame.specs.Frame.{spelling_of}
 use Rattle.pdc_frame.specs.Stream.{Held, HasTaken, given_at}
 use Rattle.pdc_frame.specs.declared.command.Command.{Command}
 use Rattle.pdc_frame.specs.declared.step.Step.{Step}
-use Rattle.pdc_network.specs.Streamed.{DidRead, DidTell, FailedToTell, HasEnded, HasRun, HaveEnded, IsDone, Turn, WasDone, WereDone, read_in, TakesFront}
+use Rattle.pdc_network.specs.Streamed.{DidRead, DidTell, FailedToTell, HasEnded, HasRun, HaveEnded, IsDone, Turn, WasDone, WereDone, read_in, TakesFront, WasLetGo, WasWritten}
 
 -- known bytes that stay lose none
 kept_none : (before now : Option (List ℕ)) (bytes : List ℕ) → bytes ≡ [] → Keeps before now → Consumes before now bytes
@@ -57,13 +57,13 @@ module _ {T : Type 0} (remaining contents : T → Option (List ℕ)) (id : ℕ) 
 
   -- a command was told, or not whole
   pub run_tells : (made now later : T) (held : Held) (unread : List ℕ) (frames : List (List ℕ)) (command : Command)
-      → Appends (contents now) (contents later) (spelling_of (command_fields id 0 command))
+      → WasWritten now later → Appends (contents now) (contents later) (spelling_of (command_fields id 0 command))
       → HasRun remaining contents id made now held unread frames → HasRun remaining contents id made later held unread frames
-  run_tells made now later held unread frames command done has = run_turns made now later held unread frames (DidTell command) refl done has
+  run_tells made now later held unread frames command written done has = run_turns made now later held unread frames (DidTell command) refl (written, done) has
 
-  pub run_fails : (made now later : T) (held : Held) (unread : List ℕ) (frames : List (List ℕ)) (command : Command)
+  pub run_fails : (made now later : T) (held : Held) (unread : List ℕ) (frames : List (List ℕ)) (command : Command) → WasWritten now later
       → HasRun remaining contents id made now held unread frames → HasRun remaining contents id made later held unread frames
-  run_fails made now later held unread frames command has = run_turns made now later held unread frames (FailedToTell command) refl tt has
+  run_fails made now later held unread frames command written has = run_turns made now later held unread frames (FailedToTell command) refl written has
 
   -- bytes were read, where none was left
   pub run_reads : (made now later : T) (held : Held) (unread bytes : List ℕ) (frames : List (List ℕ)) → unread ≡ [] → Consumes (remaining now) (remaining later) bytes
@@ -103,5 +103,5 @@ module _ {T : Type 0} (remaining contents : T → Option (List ℕ)) (id : ℕ) 
   ended_more (first ∷ made) (its ∷ frames) one latest all ended = (all.0, ended_more made frames one latest all.1 ended)
 
   pub ends : (made now : T) (held : Held) (unread : List ℕ) (frames : List (List ℕ)) → HasRun remaining contents id made now held unread frames → IsDone held unread
-      → HasEnded remaining contents id made frames
-  ends made now held unread frames has done = record { last = now; held = held; unread = unread; has_run = has; is_done = done }
+      → WasLetGo now → HasEnded remaining contents id made frames
+  ends made now held unread frames has done gone = record { last = now; held = held; unread = unread; has_run = has; is_done = done; was_let_go = gone }

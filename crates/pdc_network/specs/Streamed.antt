@@ -1,5 +1,5 @@
 -- What was done with the stream of a connection, and which frames came of it.
-use Rattle.std.specs.Prelude.{◌≡◌, ◌⊎◌, ℕ, List, [], ◌∷◌, ◌++◌, take, drop, Option, ⊤}
+use Rattle.std.specs.Prelude.{◌≡◌, ◌⊎◌, ℕ, List, [], ◌∷◌, ◌++◌, take, drop, Option}
 use Rattle.std.specs.List.{flat_map}
 use Rattle.std.specs.Io.KnownBytes.{Appends, Consumes}
 use Rattle.pdc_frame.specs.Command.{command_fields}
@@ -19,12 +19,20 @@ read_in (DidRead bytes) = bytes
 read_in (DidTell command) = []
 read_in (FailedToTell command) = []
 
+-- From the one state of a stream to the other led one call that writes to it. No proof but that of the function that tells can say so.
+unfoldable pub WasWritten : {T : Type 0} (before now : T) → Type 0
+WasWritten before now = Unit {0}
+
+-- The stream was let go as it stood. No proof but that of the function that lets it go can say so.
+unfoldable pub WasLetGo : {T : Type 0} → T → Type 0
+WasLetGo stream = Unit {0}
+
 -- The bytes that are read are those in front of what the stream has left, which loses exactly them. A command that is told is written to it
 -- as it is spelled, dated with second 0; of one that failed it may have some bytes.
 abbrev pub WasDone : {T : Type 0} (remaining contents : T → Option (List ℕ)) (id : ℕ) (before now : T) → Turn → Type 0
 WasDone remaining contents id before now (DidRead bytes) = Consumes (remaining before) (remaining now) bytes
-WasDone remaining contents id before now (DidTell command) = Appends (contents before) (contents now) (spelling_of (command_fields id 0 command))
-WasDone remaining contents id before now (FailedToTell command) = ⊤
+WasDone remaining contents id before now (DidTell command) = WasWritten before now × Appends (contents before) (contents now) (spelling_of (command_fields id 0 command))
+WasDone remaining contents id before now (FailedToTell command) = WasWritten before now
 
 -- turn by turn, and nothing between them
 abbrev pub WereDone : {T : Type 0} (remaining contents : T → Option (List ℕ)) (id : ℕ) (before now : T) → List Turn → Type 0
@@ -69,6 +77,7 @@ pub record HasEnded {T : Type 0} (remaining contents : T → Option (List ℕ)) 
   pub unread : List ℕ
   pub has_run : HasRun remaining contents id made last held unread frames
   pub is_done : IsDone held unread
+  pub was_let_go : WasLetGo last
 
 -- stream by stream
 abbrev pub HaveEnded : {T : Type 0} (remaining contents : T → Option (List ℕ)) (id : ℕ) (made : List T) → (frames : List (List (List ℕ))) → Type 0

@@ -8,7 +8,7 @@ use crate::addresses::Addresses;
 use crate::dial::Dial;
 use crate::inquiry::{Inquiry, PATIENCE};
 use crate::loss::Loss;
-use crate::streaming::{Came, ask, order, take};
+use crate::streaming::{Came, ask, let_go, order, take};
 use crate::system::TcpDialer;
 use pdc_frame::{Command, Framer, MAX_SIZE, StreamId};
 use pdc_journal::{Journal, Moment, Tally};
@@ -155,13 +155,24 @@ impl<
         })
     }
 
+    /// Lets its stream go, where it has one.
+    fn part(&mut self)
+        requires { CanEnd self.old }
+        ensures tells { (heard : List Heard) → IsHeardOver D.dialed D.Stream.remaining D.Stream.contents self.old heard
+            → IsHeardOver D.dialed D.Stream.remaining D.Stream.contents self.new heard }
+    {
+        if let Some(stream) = self.stream.take() {
+            let_go(stream);
+        }
+    }
+
     /// It is no more, for this reason, and made anew later.
     fn lose(&mut self, loss: Loss)
         requires { CanEnd self.old }
         ensures tells { (heard : List Heard) → IsHeardOver D.dialed D.Stream.remaining D.Stream.contents self.old heard
             → IsHeardOver D.dialed D.Stream.remaining D.Stream.contents self.new heard }
     {
-        self.stream = None;
+        self.part();
         self.tally.lose();
         self.wait = self.wait.saturating_mul(2).clamp(FIRST_WAIT, LONGEST_WAIT);
         self.since = Moment::now(self.rt);
@@ -183,11 +194,16 @@ impl<
             Ok(stream) => Counting::new(stream),
             Err(error) => return Err(Loss::Refused(error)),
         };
-        ask(self.id, &mut stream)?;
+        if let Err(loss) = ask(self.id, &mut stream) {
+            let_go(stream);
+            return Err(loss);
+        }
         let Ok(framer) = Framer::new(self.alloc) else {
+            let_go(stream);
             return Err(Loss::Untold);
         };
         let Ok(unread) = Unread::new(self.alloc) else {
+            let_go(stream);
             return Err(Loss::Untold);
         };
         self.framer = framer;

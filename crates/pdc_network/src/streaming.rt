@@ -2,7 +2,7 @@
 ghost use Rattle.std.specs.Prelude.{◌≡◌, ◌≤◌, ℕ, List, [], ◌++◌, IfOk, Ok, OnErr, false, length};
 ghost use Rattle.pdc_frame.specs.declared.limits.TheConstants.{MAX_SIZE};
 ghost use Rattle.pdc_session.specs.Counting.{inner_of};
-ghost use Rattle.pdc_network.specs.Streamed.{BringsBytes, BringsNothing, HasRun, IsDone, TakesFront};
+ghost use Rattle.pdc_network.specs.Streamed.{BringsBytes, BringsNothing, HasRun, IsDone, TakesFront, WasLetGo};
 ghost use Rattle.pdc_network.specs.Came.{fits_in, frames_in};
 
 use crate::loss::Loss;
@@ -33,6 +33,14 @@ pub(crate) fn order<S: Read + Write>(
         Ok(()) => Ok(()),
         Err(_) => Err(Loss::Untold),
     }
+}
+
+/// Lets a stream go.
+#[tactic(auto, unfolding(crate::specs::Streamed::WasLetGo))]
+pub(crate) fn let_go<S: Drop>(stream: Counting<S>)
+    ensures { WasLetGo (inner_of stream) }
+{
+    drop(stream);
 }
 
 /// Tells the stream to send its configuration, and then its data.
