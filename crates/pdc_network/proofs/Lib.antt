@@ -1,2 +1,4 @@
+mod Connecting
 mod Handing
 mod Passing
+mod Running

@@ -73,3 +73,12 @@ leaves_out told later (Some most) heard Ended has tells left = absurd left
 leaves_out told later (Some most) heard Failed has tells left = absurd left
 leaves_out told later (Some most) heard GaveUp has tells left = absurd left
 leaves_out told later None heard one has tells left = absurd left
+
+-- With no limit all are kept.
+all_kept : (all : List Heard) → AreKept None all all
+all_kept [] = refl
+all_kept (one ∷ all) = inr (λ left. left, all, refl, all_kept all)
+
+-- what passes where there is no limit
+pub passes_all : (told : List Heard → Type 0) (heard : List Heard) → told heard → HasPassed told None heard
+passes_all told heard has = record { all = heard; are_all = has; kept = all_kept (flat_map unless_idle heard) }

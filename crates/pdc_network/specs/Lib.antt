@@ -1,4 +1,7 @@
+pub mod Came
+pub mod Connected
 pub mod CountLimit
+pub mod Dialed
 pub mod Handed
 pub mod Host
 pub mod Inquiry
@@ -8,3 +11,4 @@ pub mod Passing
 pub mod Received
 pub mod Round
 pub mod Sent
+pub mod Streamed

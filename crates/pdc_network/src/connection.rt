@@ -1,29 +1,28 @@
 //! Frames over a TCP connection.
-ghost use Rattle.std.specs.Prelude.{◌≡◌, ◌≤◌, ◌<◌, ℕ, IfOk, IfSome, length};
+ghost use Rattle.std.specs.Prelude.{◌≡◌, ◌≤◌, ◌<◌, ◌++◌, ◌∷◌, ℕ, IfOk, IfSome, List, None, OnErr, [], length, map};
+ghost use Rattle.pdc_frame.specs.declared.limits.TheConstants.{MAX_SIZE};
+ghost use Rattle.pdc_ports.specs.Heard.{Gave, Heard, heard_by};
+ghost use Rattle.pdc_session.specs.pdc_memory.Asking.{SomeWasRefused};
 
 use crate::addresses::Addresses;
+use crate::dial::Dial;
 use crate::inquiry::{Inquiry, PATIENCE};
 use crate::loss::Loss;
-use crate::receive::is_idle;
-use pdc_frame::{Command, Framer, Step, StreamId};
+use crate::streaming::{Came, ask, let_go, order, take};
+use crate::system::TcpDialer;
+use pdc_frame::{Command, Framer, MAX_SIZE, StreamId};
 use pdc_journal::{Journal, Moment, Tally};
 use pdc_ports::{Next, Outcome};
-use pdc_session::{Counting, Unread, end_if_gone, tell};
+use pdc_session::{Counting, Unread};
 use std::alloc::{AllocError, Global};
 use std::net::{Net, SocketAddr, TcpListener, TcpStream};
 use std::rt::Clock;
 use std::sync::Wait;
+use std::thread;
 use std::time::Duration;
-use std::{io, thread};
 
-/// How long a read waits, in milliseconds.
+/// How long it waits where no connection is due, in milliseconds.
 const TURN: u64 = 20;
-
-/// How long a connection may take to be made, in milliseconds.
-const CONNECT_LIMIT: u64 = 3000;
-
-/// How long a command may take to be written, in milliseconds.
-const WRITE_LIMIT: u64 = 500;
 
 /// After how many seconds a connection is made anew: the first time, and at most.
 const FIRST_WAIT: u64 = 1;
@@ -34,14 +33,19 @@ const LONGEST_WAIT: u64 = 30;
 /// or silent for five seconds, or whose frame takes five seconds to come, is made anew: after a second, and each further time after twice
 /// as long, up to 30 seconds. Where its host has several addresses, the next one is tried after one that was not connected to.
 #[derive(Drop)]
-pub struct Connection<'a, R: Net<Listener = TcpListener, Stream = TcpStream> + Clock + Wait> {
+pub struct Connection<
+    'a,
+    R: Net<Listener = TcpListener, Stream = TcpStream> + Clock + Wait,
+    D: Dial + Drop = TcpDialer<'a, R>,
+> {
     rt: &'a R,
     alloc: Global,
     journal: &'a Journal,
     tally: &'a Tally,
     id: StreamId,
     to: Addresses,
-    stream: Option<Counting<TcpStream>>,
+    dialer: D,
+    stream: Option<Counting<D::Stream>>,
     framer: Framer,
     unread: Unread,
     /// Since when nothing came, or else the connection is lost.
@@ -71,71 +75,6 @@ fn loss_text(
     format!(in alloc; "{of} at {to}: {loss}; next try in {wait} s")
 }
 
-/// Sets the limits of a connection; what is written to it goes out at once.
-fn set_up(stream: &TcpStream) -> io::Result<()> {
-    end_if_gone(stream);
-    stream.set_read_timeout(Some(Duration::from_millis(TURN)))?;
-    stream.set_write_timeout(Some(Duration::from_millis(WRITE_LIMIT)))?;
-    stream.set_nodelay(true)
-}
-
-/// Connects to this address.
-fn connect<R: Net<Listener = TcpListener, Stream = TcpStream>>(
-    rt: &R,
-    to: &SocketAddr,
-) -> io::Result<Counting<TcpStream>> {
-    let stream = TcpStream::connect_timeout(rt, to, Duration::from_millis(CONNECT_LIMIT))?;
-    set_up(&stream)?;
-    Ok(Counting::new(stream))
-}
-
-/// Tells the stream to send its configuration, and then its data.
-fn ask(id: StreamId, stream: &mut Counting<TcpStream>) -> Result<(), Loss> {
-    tell(id, Command::SendCfg2, stream).map_err(|_| Loss::Untold)?;
-    tell(id, Command::DataOn, stream).map_err(|_| Loss::Untold)
-}
-
-/// What one read brought.
-enum Heard {
-    Bytes,
-    Nothing,
-}
-
-/// Reads once, where no byte is left.
-fn read(unread: &mut Unread, stream: &mut Counting<TcpStream>) -> Result<Heard, Loss> {
-    if !unread.bytes().is_empty() {
-        return Ok(Heard::Bytes);
-    }
-    match unread.fill(stream) {
-        Ok(0) => Err(Loss::Closed),
-        Ok(_) => Ok(Heard::Bytes),
-        Err(error) if is_idle(error.kind()) => Ok(Heard::Nothing),
-        Err(error) => Err(Loss::Failed(error)),
-    }
-}
-
-/// Takes the bytes up to the end of the next frame, and copies it to the front of the buffer. Answers its length, where it is whole.
-fn cut(framer: &mut Framer, unread: &mut Unread, buffer: &mut [u8]) -> Result<Option<usize>, Loss>
-    ensures kept { length buffer.new ≡ length buffer.old }
-    ensures datagram { IfOk result (λ len. IfSome len (λ n. n ≤ length buffer.new)) }
-{
-    let (taken, step) = framer.feed(unread.bytes());
-    unread.skip(taken);
-    match step {
-        Step::More => Ok(None),
-        Step::Bad(fault) => Err(Loss::NoFrame(fault)),
-        Step::Whole => {
-            let frame = framer.frame();
-            let len = frame.len();
-            if len > buffer.len() {
-                return Ok(None);
-            }
-            buffer[..len].copy_from_slice(frame);
-            Ok(Some(len))
-        }
-    }
-}
-
 /// Whether a frame of which some bytes came, and that is not whole, has been coming for too long.
 fn is_slow<R: Clock>(rt: &R, begun: &mut Option<Moment>) -> bool {
     match begun {
@@ -148,6 +87,8 @@ fn is_slow<R: Clock>(rt: &R, begun: &mut Option<Moment>) -> bool {
 }
 
 impl<'a, R: Net<Listener = TcpListener, Stream = TcpStream> + Clock + Wait> Connection<'a, R> {
+    ghost use Rattle.pdc_network.specs.Linked.{IsFreshConnection};
+
     /// The frames of the stream `id`, over a connection to one of these addresses that is not made yet, with what counts for it.
     ///
     /// # Errors
@@ -160,7 +101,42 @@ impl<'a, R: Net<Listener = TcpListener, Stream = TcpStream> + Clock + Wait> Conn
         tally: &'a Tally,
         id: StreamId,
         to: Addresses,
-    ) -> Result<Connection<'a, R>, AllocError> {
+    ) -> Result<Connection<'a, R>, AllocError>
+        ensures fresh { IfOk result (λ connection. IsFreshConnection ⟦<TcpDialer<'a, R> as Dial>⟧.dialed connection) }
+        ensures refused { OnErr result SomeWasRefused }
+    {
+        Connection::by(rt, alloc, journal, tally, id, to, TcpDialer::new(rt))
+    }
+}
+
+impl<
+    'a,
+    R: Net<Listener = TcpListener, Stream = TcpStream> + Clock + Wait,
+    D: Dial + Drop,
+> Connection<'a, R, D> {
+    ghost use Rattle.pdc_network.specs.Came.{fits_in, frame_in, frames_in};
+    ghost use Rattle.pdc_network.specs.Linked.{CanEnd, IsFreshConnection, IsHeardOver};
+
+    /// The same, over connections that this dialer makes.
+    ///
+    /// # Errors
+    ///
+    /// [`AllocError`] where there is no memory for the longest frame and for a read.
+    pub fn by(
+        rt: &'a R,
+        alloc: Global,
+        journal: &'a Journal,
+        tally: &'a Tally,
+        id: StreamId,
+        to: Addresses,
+        dialer: D,
+    ) -> Result<Connection<'a, R, D>, AllocError>
+        // By a dialer of which nothing was asked yet it said nothing.
+        ensures fresh { D.dialed dialer [] → IfOk result (λ connection. IsFreshConnection D.dialed connection) }
+        ensures silent { D.dialed dialer []
+            → IfOk result (λ connection. IsHeardOver D.dialed D.Stream.remaining D.Stream.contents connection []) }
+        ensures refused { OnErr result SomeWasRefused }
+    {
         Ok(Connection {
             rt,
             alloc,
@@ -168,6 +144,7 @@ impl<'a, R: Net<Listener = TcpListener, Stream = TcpStream> + Clock + Wait> Conn
             tally,
             id,
             to,
+            dialer,
             stream: None,
             framer: Framer::new(alloc)?,
             unread: Unread::new(alloc)?,
@@ -178,9 +155,24 @@ impl<'a, R: Net<Listener = TcpListener, Stream = TcpStream> + Clock + Wait> Conn
         })
     }
 
+    /// Lets its stream go, where it has one.
+    fn part(&mut self)
+        requires { CanEnd self.old }
+        ensures tells { (heard : List Heard) → IsHeardOver D.dialed D.Stream.remaining D.Stream.contents self.old heard
+            → IsHeardOver D.dialed D.Stream.remaining D.Stream.contents self.new heard }
+    {
+        if let Some(stream) = self.stream.take() {
+            let_go(stream);
+        }
+    }
+
     /// It is no more, for this reason, and made anew later.
-    fn lose(&mut self, loss: Loss) {
-        self.stream = None;
+    fn lose(&mut self, loss: Loss)
+        requires { CanEnd self.old }
+        ensures tells { (heard : List Heard) → IsHeardOver D.dialed D.Stream.remaining D.Stream.contents self.old heard
+            → IsHeardOver D.dialed D.Stream.remaining D.Stream.contents self.new heard }
+    {
+        self.part();
         self.tally.lose();
         self.wait = self.wait.saturating_mul(2).clamp(FIRST_WAIT, LONGEST_WAIT);
         self.since = Moment::now(self.rt);
@@ -192,16 +184,29 @@ impl<'a, R: Net<Listener = TcpListener, Stream = TcpStream> + Clock + Wait> Conn
     }
 
     /// Makes it, and asks for the stream.
-    fn open(&mut self) -> Result<(), Loss> {
-        let mut stream = connect(self.rt, &self.to.current()).map_err(Loss::Refused)?;
-        ask(self.id, &mut stream)?;
+    fn open(&mut self) -> Result<(), Loss>
+        requires { self.old.stream ≡ None }
+        ensures tells { (heard : List Heard) → IsHeardOver D.dialed D.Stream.remaining D.Stream.contents self.old heard
+            → IsHeardOver D.dialed D.Stream.remaining D.Stream.contents self.new heard }
+        ensures err { OnErr result (self.new.stream ≡ None) }
+    {
+        let mut stream = match self.dialer.dial(&self.to.current()) {
+            Ok(stream) => Counting::new(stream),
+            Err(error) => return Err(Loss::Refused(error)),
+        };
+        if let Err(loss) = ask(self.id, &mut stream) {
+            let_go(stream);
+            return Err(loss);
+        }
         let Ok(framer) = Framer::new(self.alloc) else {
+            let_go(stream);
+            return Err(Loss::Untold);
+        };
+        let Ok(unread) = Unread::new(self.alloc) else {
+            let_go(stream);
             return Err(Loss::Untold);
         };
         self.framer = framer;
-        let Ok(unread) = Unread::new(self.alloc) else {
-            return Err(Loss::Untold);
-        };
         self.unread = unread;
         self.stream = Some(stream);
         self.since = Moment::now(self.rt);
@@ -215,7 +220,11 @@ impl<'a, R: Net<Listener = TcpListener, Stream = TcpStream> + Clock + Wait> Conn
     }
 
     /// Makes it where its time has come, and else waits a little.
-    fn open_when_due(&mut self) {
+    fn open_when_due(&mut self)
+        requires { self.old.stream ≡ None }
+        ensures tells { (heard : List Heard) → IsHeardOver D.dialed D.Stream.remaining D.Stream.contents self.old heard
+            → IsHeardOver D.dialed D.Stream.remaining D.Stream.contents self.new heard }
+    {
         if self.wait > 0 && !self.since.is_past(self.wait, Moment::now(self.rt)) {
             thread::sleep(self.rt, Duration::from_millis(TURN));
             return;
@@ -225,24 +234,43 @@ impl<'a, R: Net<Listener = TcpListener, Stream = TcpStream> + Clock + Wait> Conn
         }
     }
 
+    /// What its stream gives next: a frame is copied to the front of the buffer.
+    fn take_next(&mut self, buffer: &mut [u8]) -> Result<Came, Loss>
+        requires { MAX_SIZE ≤ length buffer.old }
+        ensures kept { length buffer.new ≡ length buffer.old }
+        ensures fits { IfOk result (λ came. fits_in came (length buffer.new)) }
+        ensures tells { (heard : List Heard) → IsHeardOver D.dialed D.Stream.remaining D.Stream.contents self.old heard
+            → IsHeardOver D.dialed D.Stream.remaining D.Stream.contents self.new (heard ++ map Gave (frames_in result buffer.new)) }
+        ensures done { frames_in result buffer.new ≡ [] → CanEnd self.new }
+    {
+        match &mut self.stream {
+            Some(stream) => take(stream, &mut self.framer, &mut self.unread, buffer),
+            None => Ok(Came::Nothing),
+        }
+    }
+
     /// The next frame, copied to the front of the buffer; none where it is not whole yet.
     fn turn(&mut self, buffer: &mut [u8]) -> Result<Option<usize>, Loss>
+        requires { MAX_SIZE ≤ length buffer.old }
         ensures kept { length buffer.new ≡ length buffer.old }
         ensures datagram { IfOk result (λ len. IfSome len (λ n. n ≤ length buffer.new)) }
+        ensures tells { (heard : List Heard) → IsHeardOver D.dialed D.Stream.remaining D.Stream.contents self.old heard
+            → IsHeardOver D.dialed D.Stream.remaining D.Stream.contents self.new (heard ++ map Gave (frame_in result buffer.new)) }
+        ensures done { OnErr result (CanEnd self.new) }
     {
-        let Some(stream) = &mut self.stream else {
-            return Ok(None);
-        };
-        match read(&mut self.unread, stream)? {
-            Heard::Bytes => {
+        match self.take_next(buffer)? {
+            Came::Frame(len) => {
                 self.since = Moment::now(self.rt);
-                let whole = cut(&mut self.framer, &mut self.unread, buffer)?;
-                if whole.is_none() && is_slow(self.rt, &mut self.begun) {
+                Ok(Some(len))
+            }
+            Came::Piece => {
+                self.since = Moment::now(self.rt);
+                if is_slow(self.rt, &mut self.begun) {
                     return Err(Loss::Slow);
                 }
-                Ok(whole)
+                Ok(None)
             }
-            Heard::Nothing => {
+            Came::Nothing => {
                 if self.since.is_past(PATIENCE, Moment::now(self.rt)) {
                     return Err(Loss::Silent);
                 }
@@ -251,13 +279,18 @@ impl<'a, R: Net<Listener = TcpListener, Stream = TcpStream> + Clock + Wait> Conn
         }
     }
 
-    /// What comes next.
+    /// What comes next. Where the buffer has no room for the longest frame, no byte is taken, and nothing comes.
     pub fn next(&mut self, buffer: &mut [u8]) -> Next
         ensures kept { length buffer.new ≡ length buffer.old }
         ensures datagram { (n : ℕ) → result ≡ Next.Datagram n → n ≤ length buffer.new }
+        ensures tells { (heard : List Heard) → IsHeardOver D.dialed D.Stream.remaining D.Stream.contents self.old heard
+            → IsHeardOver D.dialed D.Stream.remaining D.Stream.contents self.new (heard ++ heard_by result buffer.new ∷ []) }
     {
         if self.stream.is_none() {
             self.open_when_due();
+            return Next::Idle;
+        }
+        if buffer.len() < MAX_SIZE {
             return Next::Idle;
         }
         match self.turn(buffer) {
@@ -277,16 +310,30 @@ impl<'a, R: Net<Listener = TcpListener, Stream = TcpStream> + Clock + Wait> Conn
         }
     }
 
-    /// Asks for the configuration.
-    fn ask_again(&mut self) {
-        self.inquiry.note(Moment::now(self.rt));
+    /// Tells the sender a command, where there is a connection.
+    fn tell(&mut self, command: Command)
+        ensures tells { (heard : List Heard) → IsHeardOver D.dialed D.Stream.remaining D.Stream.contents self.old heard
+            → IsHeardOver D.dialed D.Stream.remaining D.Stream.contents self.new heard }
+    {
         if let Some(stream) = &mut self.stream {
-            let _told = tell(self.id, Command::SendCfg2, stream);
+            let _told = order(self.id, command, stream);
         }
     }
 
+    /// Asks for the configuration.
+    fn ask_again(&mut self)
+        ensures tells { (heard : List Heard) → IsHeardOver D.dialed D.Stream.remaining D.Stream.contents self.old heard
+            → IsHeardOver D.dialed D.Stream.remaining D.Stream.contents self.new heard }
+    {
+        self.inquiry.note(Moment::now(self.rt));
+        self.tell(Command::SendCfg2);
+    }
+
     /// Takes how its last frame was answered. Where it was refused for want of the configuration of its data, that is asked for again.
-    pub fn answered(&mut self, outcome: Option<Outcome>) {
+    pub fn answered(&mut self, outcome: Option<Outcome>)
+        ensures tells { (heard : List Heard) → IsHeardOver D.dialed D.Stream.remaining D.Stream.contents self.old heard
+            → IsHeardOver D.dialed D.Stream.remaining D.Stream.contents self.new heard }
+    {
         if let Some(outcome) = outcome {
             if self.inquiry.is_called_for(Moment::now(self.rt), outcome) {
                 self.ask_again();
@@ -295,9 +342,10 @@ impl<'a, R: Net<Listener = TcpListener, Stream = TcpStream> + Clock + Wait> Conn
     }
 
     /// Tells the sender, where there is a connection, to send no more.
-    pub fn end(&mut self) {
-        if let Some(stream) = &mut self.stream {
-            let _told = tell(self.id, Command::DataOff, stream);
-        }
+    pub fn end(&mut self)
+        ensures tells { (heard : List Heard) → IsHeardOver D.dialed D.Stream.remaining D.Stream.contents self.old heard
+            → IsHeardOver D.dialed D.Stream.remaining D.Stream.contents self.new heard }
+    {
+        self.tell(Command::DataOff);
     }
 }

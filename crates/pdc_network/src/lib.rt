@@ -7,8 +7,9 @@
 //! is the whole command over any source and writer: it returns once so many datagrams have come, or at the source's end or first fault.
 //!
 //! [`Link`] is how a concentrator comes by the frames of a stream: at a UDP port, from anybody or from one address alone, asked for or
-//! not; or over a TCP connection, as most PMUs serve it, and as the sessions of a node are. A connection that is lost is no failure: it
-//! is told, counted, and made anew. Configurations above a [`CountLimit`] it leaves out.
+//! not; or over a TCP connection, as most PMUs serve it, and as the sessions of a node are. A connection is made by any [`Dial`], and gives
+//! the frames of the bytes that were read of its streams, once, in order. One that is lost is no failure: it is told, counted, and made
+//! anew. Configurations above a [`CountLimit`] a link leaves out.
 #![tactic(auto)]
 
 mod addresses;
@@ -16,6 +17,7 @@ mod connection;
 mod count_limit;
 mod datagrams;
 mod destination;
+mod dial;
 mod inquiry;
 mod link;
 mod loss;
@@ -24,6 +26,7 @@ mod port;
 mod receive;
 mod receive_buffer;
 mod send_to;
+mod streaming;
 mod system;
 mod udp_sink;
 mod udp_source;
@@ -34,11 +37,13 @@ pub use connection::Connection;
 pub use count_limit::CountLimit;
 pub use datagrams::{ListenFault, listen};
 pub use destination::Destination;
+pub use dial::Dial;
 pub use link::Link;
 pub use loss::Loss;
 pub use outputs::{Outputs, UdpOutputs};
 pub use port::Port;
 pub use receive::Receive;
 pub use send_to::SendTo;
+pub use system::TcpDialer;
 pub use udp_sink::UdpSink;
 pub use udp_source::UdpSource;

@@ -1,13 +1,15 @@
 //! The frames of a stream, however they come.
-ghost use Rattle.std.specs.Prelude.{◌≡◌, ◌≢◌, ◌≤◌, ◌<◌, ℕ, false, length, true};
-ghost use Rattle.pdc_ports.specs.Heard.{heard_by};
+ghost use Rattle.std.specs.Prelude.{◌≡◌, ◌≢◌, ◌≤◌, ◌<◌, ℕ, List, [], false, length, true};
+ghost use Rattle.pdc_ports.specs.Heard.{Heard, heard_by};
 ghost use Rattle.pdc_network.specs.Limit.{most_of};
 ghost use Rattle.pdc_network.specs.Passing.{IsLeftOut};
 
 use crate::connection::Connection;
 use crate::count_limit::CountLimit;
+use crate::dial::Dial;
 use crate::port::Port;
 use crate::receive::Receive;
+use crate::system::TcpDialer;
 use crate::way::Way;
 use pdc_ports::{Next, Numbered, Outcome, Source};
 use std::net::{Net, TcpListener, TcpStream, UdpSocket};
@@ -22,8 +24,9 @@ pub struct Link<
     'a,
     R: Net<Listener = TcpListener, Stream = TcpStream> + Clock + Wait,
     S: Receive + Drop = UdpSocket,
+    D: Dial + Drop = TcpDialer<'a, R>,
 > {
-    way: Way<'a, R, S>,
+    way: Way<'a, R, S, D>,
     /// Which configurations it leaves out, if it leaves out any.
     limit: Option<CountLimit<'a, R>>,
     /// How many datagrams it gave since it was idle last.
@@ -31,13 +34,20 @@ pub struct Link<
     failures: u64,
 }
 
-impl<'a, R: Net<Listener = TcpListener, Stream = TcpStream> + Clock + Wait, S: Receive + Drop> Link<
+impl<
     'a,
-    R,
-    S,
-> {
+    R: Net<Listener = TcpListener, Stream = TcpStream> + Clock + Wait,
+    S: Receive + Drop,
+    D: Dial + Drop,
+> Link<'a, R, S, D> {
+    ghost use Rattle.pdc_network.specs.Linked.{IsFreshConnection, IsFreshLink, IsFreshPort, IsHeardAt, IsHeardOver, limit_of};
+
     /// They come to this port.
-    pub fn at(port: Port<'a, R, S>) -> Link<'a, R, S> {
+    pub fn at(port: Port<'a, R, S>) -> Link<'a, R, S, D>
+        ensures fresh { IsFreshPort S.received port.entry → IsFreshLink S.received D.dialed result }
+        ensures tells { (heard : List Heard) → IsHeardAt S.received port.entry heard
+            → ⟦<Link<'a, R, S, D> as Source>⟧.told result heard }
+    {
         Link {
             way: Way::Datagrams(port),
             limit: None,
@@ -47,7 +57,11 @@ impl<'a, R: Net<Listener = TcpListener, Stream = TcpStream> + Clock + Wait, S: R
     }
 
     /// They come over this connection.
-    pub fn over(connection: Connection<'a, R>) -> Link<'a, R, S> {
+    pub fn over(connection: Connection<'a, R, D>) -> Link<'a, R, S, D>
+        ensures fresh { IsFreshConnection D.dialed connection.entry → IsFreshLink S.received D.dialed result }
+        ensures tells { (heard : List Heard) → IsHeardOver D.dialed D.Stream.remaining D.Stream.contents connection.entry heard
+            → ⟦<Link<'a, R, S, D> as Source>⟧.told result heard }
+    {
         Link {
             way: Way::Stream(connection),
             limit: None,
@@ -57,7 +71,12 @@ impl<'a, R: Net<Listener = TcpListener, Stream = TcpStream> + Clock + Wait, S: R
     }
 
     /// Leaves out what this limit leaves out, if there is one.
-    pub fn set_limit(&mut self, limit: Option<CountLimit<'a, R>>) {
+    pub fn set_limit(&mut self, limit: Option<CountLimit<'a, R>>)
+        ensures limit { limit_of self.new ≡ most_of limit.entry }
+        ensures fresh { IsFreshLink S.received D.dialed self.old → IsFreshLink S.received D.dialed self.new }
+        // Where nothing came by its way yet it said nothing, whatever the limit is.
+        ensures silent { IsFreshLink S.received D.dialed self.old → ⟦<Link<'a, R, S, D> as Source>⟧.told self.new [] }
+    {
         self.limit = limit;
     }
 
@@ -67,8 +86,12 @@ impl<'a, R: Net<Listener = TcpListener, Stream = TcpStream> + Clock + Wait, S: R
     }
 }
 
-impl<'a, R: Net<Listener = TcpListener, Stream = TcpStream> + Clock + Wait, S: Receive + Drop> Drop
-    for Link<'a, R, S> {
+impl<
+    'a,
+    R: Net<Listener = TcpListener, Stream = TcpStream> + Clock + Wait,
+    S: Receive + Drop,
+    D: Dial + Drop,
+> Drop for Link<'a, R, S, D> {
     fn drop(self) {
         let Link {
             way,
@@ -105,13 +128,14 @@ impl<
     'a,
     R: Net<Listener = TcpListener, Stream = TcpStream> + Clock + Wait,
     S: Receive + Drop,
-> Source for Link<'a, R, S> {
+    D: Dial + Drop,
+> Source for Link<'a, R, S, D> {
     ghost use Rattle.std.specs.Prelude.{◌-◌};
     ghost use Rattle.pdc_network.specs.Linked.{IsHeardBy};
     ghost use Rattle.pdc_network.specs.Passing.{HasPassed};
     ghost use Rattle.pdc_network.specs.declared.link.TheConstants.{MOST_IN_A_ROW};
 
-    ghost told = { λ s heard. HasPassed (IsHeardBy S.received s.way) (most_of s.limit) heard };
+    ghost told = { λ s heard. HasPassed (IsHeardBy S.received D.dialed D.Stream.remaining D.Stream.contents s.way) (most_of s.limit) heard };
 
     ghost failures_of = { λ s. s.failures };
 

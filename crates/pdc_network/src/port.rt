@@ -29,7 +29,7 @@ pub struct Port<'a, R: Clock, S: Receive + Drop = UdpSocket> {
 }
 
 impl<'a, R: Clock, S: Receive + Drop> Port<'a, R, S> {
-    ghost use Rattle.pdc_network.specs.Linked.{IsHeardAt};
+    ghost use Rattle.pdc_network.specs.Linked.{IsFreshPort, IsHeardAt, socket_of};
 
     /// The frames of the stream `id` at this port, with what counts for it, and where its sender takes commands, if it is asked.
     pub fn new(
@@ -38,7 +38,10 @@ impl<'a, R: Clock, S: Receive + Drop> Port<'a, R, S> {
         source: UdpSource<S>,
         id: StreamId,
         commands: Option<SocketAddr>,
-    ) -> Port<'a, R, S> {
+    ) -> Port<'a, R, S>
+        ensures fresh { S.received (socket_of source) [] → IsFreshPort S.received result }
+        ensures tells { (heard : List Heard) → ⟦<UdpSource<S> as Source>⟧.told source heard → IsHeardAt S.received result heard }
+    {
         Port {
             rt,
             tally,

@@ -1,5 +1,6 @@
 //! Datagrams from a UDP port.
-ghost use Rattle.std.specs.Prelude.{◌≡◌, ◌≤◌, ◌++◌, ◌∷◌, List, None, [], length};
+ghost use Rattle.std.specs.Prelude.{◌≡◌, ◌≤◌, ◌++◌, ◌∷◌, IfOk, List, None, [], length};
+ghost use Rattle.pdc_network.specs.Linked.{read_from, socket_of};
 ghost use Rattle.pdc_network.specs.Received.{host_bits, is_read};
 
 use crate::receive::{Receive, is_idle};
@@ -40,7 +41,9 @@ impl UdpSource<UdpSocket> {
     /// # Errors
     ///
     /// Where the port cannot be opened, as one that is taken.
-    pub fn open<R: Net>(net: &R, port: u16) -> io::Result<UdpSource<UdpSocket>> {
+    pub fn open<R: Net>(net: &R, port: u16) -> io::Result<UdpSource<UdpSocket>>
+        ensures from { IfOk result (λ source. read_from source ≡ None) }
+    {
         UdpSource::open_at(net, IpAddr::from(LOOPBACK), port)
     }
 
@@ -49,11 +52,9 @@ impl UdpSource<UdpSocket> {
     /// # Errors
     ///
     /// Where the port cannot be opened, as one that is taken, or where the machine has no such address.
-    pub fn open_at<R: Net>(
-        net: &R,
-        address: IpAddr,
-        port: u16,
-    ) -> io::Result<UdpSource<UdpSocket>> {
+    pub fn open_at<R: Net>(net: &R, address: IpAddr, port: u16) -> io::Result<UdpSource<UdpSocket>>
+        ensures from { IfOk result (λ source. read_from source ≡ None) }
+    {
         let socket = UdpSocket::bind(net, (address, port))?;
         socket.set_read_timeout(Some(Duration::from_millis(IDLE_AFTER)))?;
         Ok(UdpSource::new(socket))
@@ -68,7 +69,10 @@ impl UdpSource<UdpSocket> {
 impl<S: Receive + Drop> UdpSource<S> {
     /// The datagrams of each sender that come to this port.
     pub fn new(socket: S) -> UdpSource<S>
-        ensures { (result.socket ≡ socket) × (result.from ≡ None) }
+        ensures socket { socket_of result ≡ socket }
+        ensures from { read_from result ≡ None }
+        // Over a socket of which nothing was asked yet it said nothing.
+        ensures silent { S.received socket [] → ⟦<UdpSource<S> as Source>⟧.told result [] }
     {
         UdpSource {
             socket,
@@ -80,7 +84,12 @@ impl<S: Receive + Drop> UdpSource<S> {
     }
 
     /// From now on only the datagrams of this address are given, where there is one. The others are counted as strangers, and nothing else.
-    pub fn read_only(&mut self, from: Option<IpAddr>) {
+    pub fn read_only(&mut self, from: Option<IpAddr>)
+        ensures socket { socket_of self.new ≡ socket_of self.old }
+        ensures from { read_from self.new ≡ from }
+        // Where nothing was asked of its socket yet it said nothing, whichever address that is.
+        ensures silent { S.received (socket_of self.old) [] → ⟦<UdpSource<S> as Source>⟧.told self.new [] }
+    {
         self.from = from;
     }
 

@@ -3,6 +3,7 @@ ghost use Rattle.std.specs.Prelude.{◌≡◌, ◌≤◌, ◌++◌, ◌∷◌, �
 ghost use Rattle.pdc_ports.specs.Heard.{Heard, heard_by};
 
 use crate::connection::Connection;
+use crate::dial::Dial;
 use crate::port::Port;
 use crate::receive::Receive;
 use pdc_ports::{Next, Outcome};
@@ -16,23 +17,26 @@ pub(crate) enum Way<
     'a,
     R: Net<Listener = TcpListener, Stream = TcpStream> + Clock + Wait,
     S: Receive + Drop,
+    D: Dial + Drop,
 > {
     Datagrams(Port<'a, R, S>),
-    Stream(Connection<'a, R>),
+    Stream(Connection<'a, R, D>),
 }
 
-impl<'a, R: Net<Listener = TcpListener, Stream = TcpStream> + Clock + Wait, S: Receive + Drop> Way<
+impl<
     'a,
-    R,
-    S,
-> {
+    R: Net<Listener = TcpListener, Stream = TcpStream> + Clock + Wait,
+    S: Receive + Drop,
+    D: Dial + Drop,
+> Way<'a, R, S, D> {
     ghost use Rattle.pdc_network.specs.Linked.{IsHeardBy};
 
     /// What comes next.
     pub(crate) fn next(&mut self, buffer: &mut [u8]) -> Next
         ensures kept { length buffer.new ≡ length buffer.old }
         ensures datagram { (n : ℕ) → result ≡ Next.Datagram n → n ≤ length buffer.new }
-        ensures tells { (heard : List Heard) → IsHeardBy S.received self.old heard → IsHeardBy S.received self.new (heard ++ heard_by result buffer.new ∷ []) }
+        ensures tells { (heard : List Heard) → IsHeardBy S.received D.dialed D.Stream.remaining D.Stream.contents self.old heard
+            → IsHeardBy S.received D.dialed D.Stream.remaining D.Stream.contents self.new (heard ++ heard_by result buffer.new ∷ []) }
     {
         match self {
             Way::Datagrams(port) => port.next(buffer),
@@ -42,7 +46,8 @@ impl<'a, R: Net<Listener = TcpListener, Stream = TcpStream> + Clock + Wait, S: R
 
     /// Takes how its last frame was answered.
     pub(crate) fn answered(&mut self, outcome: Option<Outcome>)
-        ensures tells { (heard : List Heard) → IsHeardBy S.received self.old heard → IsHeardBy S.received self.new heard }
+        ensures tells { (heard : List Heard) → IsHeardBy S.received D.dialed D.Stream.remaining D.Stream.contents self.old heard
+            → IsHeardBy S.received D.dialed D.Stream.remaining D.Stream.contents self.new heard }
     {
         match self {
             Way::Datagrams(port) => port.answered(outcome),

@@ -6,34 +6,30 @@ use Rattle.pdc_network.specs.Passing.{HasPassed}
 use Rattle.pdc_network.proofs.Passing.{leaves_out, passes}
 use Rattle.pdc_network.proofs.link.LinkSource.next.Goals as goal
 
--- src/link.rt:128:13
 pub returns-then-is_left_out-clause-tells : goal.returns-then-is_left_out-clause-tells
 returns-then-is_left_out-clause-tells g c heard has =
-    subst (λ most. HasPassed (IsHeardBy g.S.Receive.received c.next-next.new.self) most (heard ++ Idled ∷ [])) (sym c.is_left_out.ensures.same)
-    (leaves_out (IsHeardBy g.S.Receive.received c.args.self.now.way) (IsHeardBy g.S.Receive.received c.next-next.new.self) (most_of c.args.self.now.limit) heard
+    subst (λ most. HasPassed (IsHeardBy g.S.Receive.received g.D.Dial.dialed g.D.Stream.Read.remaining g.D.Stream.Write.contents c.next-next.new.self) most (heard ++ Idled ∷ [])) (sym c.is_left_out.ensures.same)
+    (leaves_out (IsHeardBy g.S.Receive.received g.D.Dial.dialed g.D.Stream.Read.remaining g.D.Stream.Write.contents c.args.self.now.way) (IsHeardBy g.S.Receive.received g.D.Dial.dialed g.D.Stream.Read.remaining g.D.Stream.Write.contents c.next-next.new.self) (most_of c.args.self.now.limit) heard
     (heard_by c.next-next.result c.next-next.new.buffer) has c.next-next.ensures.tells (c.if-is_left_out.ensures.left refl))
 
--- src/link.rt:120:5
 pub returns-in-Datagram-clause-tells : goal.returns-in-Datagram-clause-tells
 returns-in-Datagram-clause-tells g c heard has =
-    subst (λ most. HasPassed (IsHeardBy g.S.Receive.received c.next-next.new.self) most (heard ++ heard_by c.next-next.result c.next-next.new.buffer ∷ [])) (sym c.is_left_out.ensures.same)
-    (passes (IsHeardBy g.S.Receive.received c.args.self.now.way) (IsHeardBy g.S.Receive.received c.next-next.new.self) (most_of c.args.self.now.limit) heard
+    subst (λ most. HasPassed (IsHeardBy g.S.Receive.received g.D.Dial.dialed g.D.Stream.Read.remaining g.D.Stream.Write.contents c.next-next.new.self) most (heard ++ heard_by c.next-next.result c.next-next.new.buffer ∷ [])) (sym c.is_left_out.ensures.same)
+    (passes (IsHeardBy g.S.Receive.received g.D.Dial.dialed g.D.Stream.Read.remaining g.D.Stream.Write.contents c.args.self.now.way) (IsHeardBy g.S.Receive.received g.D.Dial.dialed g.D.Stream.Read.remaining g.D.Stream.Write.contents c.next-next.new.self) (most_of c.args.self.now.limit) heard
     (heard_by c.next-next.result c.next-next.new.buffer) has c.next-next.ensures.tells (c.if-is_left_out.ensures.stays refl))
 
--- src/link.rt:120:5
 pub returns-in-Fault-clause-tells : goal.returns-in-Fault-clause-tells
 returns-in-Fault-clause-tells g c heard has =
-    subst (λ most. HasPassed (IsHeardBy g.S.Receive.received c.next-next.new.self) most (heard ++ heard_by c.next-next.result c.next-next.new.buffer ∷ [])) (sym c.is_left_out.ensures.same)
-    (passes (IsHeardBy g.S.Receive.received c.args.self.now.way) (IsHeardBy g.S.Receive.received c.next-next.new.self) (most_of c.args.self.now.limit) heard
+    subst (λ most. HasPassed (IsHeardBy g.S.Receive.received g.D.Dial.dialed g.D.Stream.Read.remaining g.D.Stream.Write.contents c.next-next.new.self) most (heard ++ heard_by c.next-next.result c.next-next.new.buffer ∷ [])) (sym c.is_left_out.ensures.same)
+    (passes (IsHeardBy g.S.Receive.received g.D.Dial.dialed g.D.Stream.Read.remaining g.D.Stream.Write.contents c.args.self.now.way) (IsHeardBy g.S.Receive.received g.D.Dial.dialed g.D.Stream.Read.remaining g.D.Stream.Write.contents c.next-next.new.self) (most_of c.args.self.now.limit) heard
     (heard_by c.next-next.result c.next-next.new.buffer) has c.next-next.ensures.tells (c.if-is_left_out.ensures.stays refl))
 
--- src/link.rt:120:5
 pub returns-in_default : goal.returns-in_default
 returns-in_default g c = record {
   kept = c.next-next.ensures.kept;
   tells = λ heard has.
-      subst (λ most. HasPassed (IsHeardBy g.S.Receive.received c.next-next.new.self) most (heard ++ heard_by c.next-next.result c.next-next.new.buffer ∷ [])) (sym c.is_left_out.ensures.same)
-      (passes (IsHeardBy g.S.Receive.received c.args.self.now.way) (IsHeardBy g.S.Receive.received c.next-next.new.self) (most_of c.args.self.now.limit) heard
+      subst (λ most. HasPassed (IsHeardBy g.S.Receive.received g.D.Dial.dialed g.D.Stream.Read.remaining g.D.Stream.Write.contents c.next-next.new.self) most (heard ++ heard_by c.next-next.result c.next-next.new.buffer ∷ [])) (sym c.is_left_out.ensures.same)
+      (passes (IsHeardBy g.S.Receive.received g.D.Dial.dialed g.D.Stream.Read.remaining g.D.Stream.Write.contents c.args.self.now.way) (IsHeardBy g.S.Receive.received g.D.Dial.dialed g.D.Stream.Read.remaining g.D.Stream.Write.contents c.next-next.new.self) (most_of c.args.self.now.limit) heard
       (heard_by c.next-next.result c.next-next.new.buffer) has c.next-next.ensures.tells (c.if-is_left_out.ensures.stays refl));
   more = omega arith;
   datagram = c.next-next.ensures.datagram;

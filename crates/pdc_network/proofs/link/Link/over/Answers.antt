@@ -1,0 +1,8 @@
+use Rattle.pdc_network.specs.Linked.{IsHeardBy}
+use Rattle.pdc_network.specs.declared.way.Way.TheVariants.{Stream}
+use Rattle.pdc_network.proofs.Passing.{passes_all}
+use Rattle.pdc_network.proofs.link.Link.over.Goals as goal
+
+pub returns-clause-tells : goal.returns-clause-tells
+returns-clause-tells g c heard has =
+    passes_all (IsHeardBy g.S.Receive.received g.D.Dial.dialed g.D.Stream.Read.remaining g.D.Stream.Write.contents (Stream c.args.connection)) heard has
