@@ -2,7 +2,7 @@
 pub use Rattle.std.specs.{Int.{cast_signed, to_be_bytes, w16}, List.{AllByRecursion, cons_option, Contains, filter_map, list_all, list_any, range_with_len, slice_get}, Prelude.{[], ◌++◌, ◌+◌, ◌-◌, ◌<◌, ◌==◌, ◌||◌, ◌∷◌, ◌≡◌, ◌≢◌, ◌≤◌, ◌⊎◌, Bool, false, length, List, map, nat_lt, None, refl, replicate, Some, true, ℕ}}
 pub use Rattle.std.proofs.{lemmas.Bool.{false≢true}, lemmas.List.{append-nil, append_assoc, length-map, length-replicate, map-append}, lemmas.List.Elements.{Contains-append_cases, Contains-append_left, Contains-append_right, filter-append}, lemmas.List.FromFn.{length-range_with_len}, lemmas.Option.{get_or_from_slice_get, none-some, same_Some, slice_get-map, slice_get_within}}
 pub use Rattle.pdc_frame.specs.{Bytes.{AreBytes}, declared.frame.Kind.{Kind}, declared.frame.Kind.TheVariants.{Cfg2, DataFrame}, Frame.{Fields, Fits, IsFrame, spelling_of}}
-pub use Rattle.pdc_cfg.specs.{Config.{ConfigFields, IsConfig}, declared.shape.Shape.{Shape}, Section.{IsSection, SectionFields}}
+pub use Rattle.pdc_block.specs.pdc_cfg.{Config.{ConfigFields, IsConfig}, declared.shape.Shape.{Shape}, Section.{IsSection, SectionFields}}
 pub use Rattle.pdc_block.specs.{AbsentBlock.{absent_of}, Block.{AreWords, bytes_of_blocks, bytes_of_words, IsBody, IsCut, words_in}}
 pub use Rattle.pdc_frame.specs.Instant.{IsInstant}
 pub use Rattle.pdc_row.specs.{CellView.{BlockView}, Rising.{AreBelow, Rises}, RowView.{row_instants, RowView}}

@@ -1,7 +1,7 @@
 -- What a world is asked to do, before its bytes are read: the event that it reads as, and why it is a fault.
 use Rattle.std.specs.{List.{Contains, slice_get}, Prelude.{◌^◌, ◌≡◌, ◌≢◌, ◌≤◌, ◌⊎◌, length, List, Some, ℕ}}
 use Rattle.pdc_frame.specs.Frame.{Fields, IsFrame}
-use Rattle.pdc_cfg.specs.Section.{SectionFields}
+use Rattle.pdc_block.specs.pdc_cfg.Section.{SectionFields}
 use Rattle.pdc_life.specs.{Arrival.{Arrival}, CoreKind.{Says}, declared.pmu.Pmu.{Pmu}, NodeReading.{IsValid, stream_of}, Reading.{IsData}}
 use Rattle.pdc_history.specs.{Event.{Act, Bring, Event, happens, Miss}, History.{IsForOne, IsOfPmu, MayHappen, stream_ids}, World.{Ends, Happened, kind_of, sent, Who, World}}
 use Rattle.pdc_history.specs.Event as events

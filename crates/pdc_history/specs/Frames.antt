@@ -1,6 +1,6 @@
 -- What a reader of the streams sees: frames among those that were sent, and the layout under a stamp.
 use Rattle.std.specs.{List.{Contains, slice_get}, Prelude.{[], ◌<◌, ◌^◌, ◌∷◌, ◌≡◌, ◌⊎◌, List, map, Some, ℕ}}
-use Rattle.pdc_cfg.specs.{Config.{ConfigFields}, declared.shape.Shape.{Shape}, Section.{SectionFields}}
+use Rattle.pdc_block.specs.pdc_cfg.{Config.{ConfigFields}, declared.shape.Shape.{Shape}, Section.{SectionFields}}
 use Rattle.pdc_block.specs.{AbsentBlock.{absent_of}, Block.{IsBody, IsCut}}
 use Rattle.pdc_row.specs.Layout.{own_block}
 use Rattle.pdc_life.specs.{Arrival.{Stamp}, declared.pmu.Pmu.{Pmu}, MergerReading.{IsOwn}, NodeReading.{IsValid, stream_of}, Reading.{HasConfig, IsData, Stream}}

@@ -1,6 +1,6 @@
 -- The blocks of frames that were sent are genuine, so frames agree.
 use Rattle.std.specs.{List.{AllByRecursion, Contains, slice_get}, Prelude.{◌≡◌, ◌≢◌, List, map, Some, ℕ}}
-use Rattle.pdc_cfg.specs.Section.{SectionFields}
+use Rattle.pdc_block.specs.pdc_cfg.Section.{SectionFields}
 use Rattle.pdc_block.specs.AbsentBlock.{absent_of}
 use Rattle.pdc_row.specs.RowView.{RowView}
 use Rattle.pdc_row.specs.Layout.{row_payload, wire_of}

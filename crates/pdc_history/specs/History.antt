@@ -1,7 +1,7 @@
 -- Which histories a world may have: each thing happened as an event that may happen makes it.
 use Rattle.std.specs.{List.{Contains, slice_get}, Prelude.{[], ◌<◌, ◌^◌, ◌∷◌, ◌≡◌, List, map, Some, ℕ}}
 use Rattle.pdc_frame.specs.Frame.{Fields, IsFrame}
-use Rattle.pdc_cfg.specs.Section.{SectionFields}
+use Rattle.pdc_block.specs.pdc_cfg.Section.{SectionFields}
 use Rattle.pdc_life.specs.{Arrival.{Arrival}, CoreKind.{CoreKind, OfMerger, OfNode, Says}, declared.merging.MergedNode.{MergedNode}, declared.pmu.Pmu.{Pmu}, MergerReading.{nodes_of}, NodeReading.{IsValid, stream_of}, Reading.{IsData, IsOfStream}}
 use Rattle.pdc_history.specs.{Agree.{ids_of, MayBegin}, Event.{Bring, Event, happens, history_from, Send}, World.{Ends, Happened, kind_of, sent, Who, World}}
 

@@ -18,3 +18,4 @@ pub mod Index
 pub mod Sent
 pub mod Told
 pub mod Handed
+pub use Rattle.pdc_memory.specs as pdc_memory

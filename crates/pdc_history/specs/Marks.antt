@@ -1,6 +1,6 @@
 -- Marks bound what was published and adopted, so instants rise and counts never fall, over all lives.
 use Rattle.std.specs.{List.{AllByRecursion}, Prelude.{◌++◌, ◌<◌, ◌^◌, ◌≡◌, ◌≤◌, length, List, Some, ℕ}}
-use Rattle.pdc_cfg.specs.Section.{SectionFields}
+use Rattle.pdc_block.specs.pdc_cfg.Section.{SectionFields}
 use Rattle.pdc_row.specs.{Rising.{Rises}, RowView.{row_instants, RowView}}
 use Rattle.pdc_mark.specs.declared.layout.TheConstants.{COUNTS}
 use Rattle.pdc_life.specs.{Answer.{waiting_counts}, Given.{count_for}, Life.{section_in_force}}

@@ -1,7 +1,7 @@
 -- What PMUs sent, in every history.
 use Rattle.std.specs.{List.{Contains, slice_get}, Prelude.{◌∷◌, ◌≡◌, List, Some, ℕ}}
 use Rattle.pdc_frame.specs.Frame.{Fields}
-use Rattle.pdc_cfg.specs.Section.{SectionFields}
+use Rattle.pdc_block.specs.pdc_cfg.Section.{SectionFields}
 use Rattle.pdc_life.specs.{declared.pmu.Pmu.{Pmu}, NodeReading.{IsValid, stream_of}, Reading.{IsData, IsOfStream}}
 use Rattle.pdc_history.specs.{History.{IsHistory}, Seen.{Seen}, World.{Happened, Sends, sent_at, World}}
 

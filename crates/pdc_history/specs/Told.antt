@@ -1,6 +1,6 @@
 -- What a frame tells of a PMU: of an instant a body, and under a count a section.
 use Rattle.std.specs.Prelude.{◌≡◌, ℕ, List, [], ◌∷◌, Option, None, Some}
-use Rattle.pdc_cfg.specs.Section.{SectionFields}
+use Rattle.pdc_block.specs.pdc_cfg.Section.{SectionFields}
 use Rattle.pdc_life.specs.declared.given.Settings.{Settings}
 use Rattle.pdc_life.specs.declared.pmu.Pmu.{Pmu}
 use Rattle.pdc_life.specs.Arrival.{Arrival, BytesRefused, Data, Layout}

@@ -1,7 +1,9 @@
 //! Numbers in buckets.
 ghost use Rattle.std.specs.Prelude.{◌≡◌, ◌<◌, ◌≤◌, ◌++◌, ◌∷◌, [], length, slice_index, IfOk, OnOk, OnErr};
+ghost use Rattle.pdc_memory.specs.Asking.{WasRefused};
 ghost use Rattle.pdc_history.specs.Chains.{IsLastBelow};
 
+use pdc_memory::{Held, make_room};
 use std::alloc::{AllocError, Global};
 use std::marker::Model;
 
@@ -21,7 +23,7 @@ struct Entry {
 /// ```
 #[derive(Drop)]
 pub(crate) struct Chains {
-    lasts: Vec<Option<usize>>,
+    lasts: Held<Option<usize>>,
     entries: Vec<Entry>,
 }
 
@@ -45,13 +47,14 @@ impl Chains {
     ///
     /// # Errors
     ///
-    /// [`AllocError`] where there is no memory for them.
+    /// [`AllocError`] where a request for so many was refused.
     pub fn new(alloc: Global, buckets: usize) -> Result<Chains, AllocError>
         ensures buckets { IfOk result (λ chains. chains.buckets ≡ buckets) }
         ensures keys { IfOk result (λ chains. chains.keys ≡ []) }
+        ensures refused { OnErr result (WasRefused buckets) }
     {
         Ok(Chains {
-            lasts: vec![in alloc; None; buckets]?,
+            lasts: Held::filled(alloc, None, buckets)?,
             entries: Vec::new(alloc),
         })
     }
@@ -60,13 +63,14 @@ impl Chains {
     ///
     /// # Errors
     ///
-    /// [`AllocError`] where there is none and no memory for it. Nothing is changed then.
+    /// [`AllocError`] where there is none, and a request for it was refused. Nothing is changed then.
     pub fn reserve(&mut self) -> Result<(), AllocError>
         ensures room { OnOk result (0 < self.new.slots) }
         ensures keys { self.new.keys ≡ self.old.keys }
         ensures buckets { self.new.buckets ≡ self.old.buckets }
+        ensures refused { OnErr result (WasRefused 1) }
     {
-        self.entries.reserve(1)
+        make_room(&mut self.entries, 1)
     }
 
     /// The next number goes into this bucket.
@@ -77,9 +81,9 @@ impl Chains {
         ensures buckets { self.new.buckets ≡ self.old.buckets }
     {
         let number = self.entries.len();
-        let before = self.lasts[bucket];
+        let before = *self.lasts.item(bucket);
         self.entries.push_reserved(Entry { bucket, before });
-        self.lasts[bucket] = Some(number);
+        *self.lasts.item_mut(bucket) = Some(number);
     }
 
     /// The last number in this bucket.
@@ -87,7 +91,7 @@ impl Chains {
         requires { bucket < self.now.buckets }
         ensures { IsLastBelow self.now.keys bucket (length self.now.keys) result }
     {
-        self.lasts[bucket]
+        *self.lasts.item(bucket)
     }
 
     /// The last number before this one that is in its bucket.

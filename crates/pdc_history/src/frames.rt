@@ -1,7 +1,9 @@
 //! Frames one behind another.
-ghost use Rattle.std.specs.Prelude.{◌≡◌, ◌<◌, ◌≤◌, ◌++◌, ◌∷◌, [], Some, length, OnOk};
+ghost use Rattle.std.specs.Prelude.{◌≡◌, ◌<◌, ◌≤◌, ◌++◌, ◌∷◌, [], Some, length, OnErr, OnOk};
 ghost use Rattle.std.specs.List.{slice_get};
+ghost use Rattle.pdc_memory.specs.Asking.{SomeWasRefused};
 
+use pdc_memory::make_room;
 use std::alloc::{AllocError, Global};
 use std::marker::Model;
 
@@ -66,14 +68,15 @@ impl Frames {
     ///
     /// # Errors
     ///
-    /// [`AllocError`] where there is none and no memory for it. The frames are unchanged then.
+    /// [`AllocError`] where there is none, and a request for it was refused. The frames are unchanged then.
     pub fn reserve(&mut self, most: usize) -> Result<(), AllocError>
         ensures frames { self.new.frames ≡ self.old.frames }
         ensures place { OnOk result (0 < self.new.places) }
         ensures room { OnOk result (most ≤ self.new.room) }
+        ensures refused { OnErr result SomeWasRefused }
     {
-        self.bytes.reserve(most)?;
-        self.places.reserve(1)
+        make_room(&mut self.bytes, most)?;
+        make_room(&mut self.places, 1)
     }
 
     /// Appends a frame for which there is room.

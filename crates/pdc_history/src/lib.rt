@@ -45,6 +45,7 @@ pub use laws::{
     marks_bound_lives, merged_blocks_are_genuine, node_blocks_are_genuine, pmus_send_one,
     stamps_have_one_layout, waiting_is_whole,
 };
+pub use pdc_memory::{make_room, with_room};
 pub use reply::{Published, Reply};
 pub use send_fault::SendFault;
 pub use sent::Sent;

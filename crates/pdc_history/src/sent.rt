@@ -1,6 +1,7 @@
 //! All frames that were ever sent.
 ghost use Rattle.std.specs.Prelude.{◌≡◌, ◌<◌, ◌≤◌, ◌+◌, ◌↔◌, [], ◌∷◌, ◌++◌, true, false, length, option_map, IfErr, IfOk, IsErrOf, IsOk, IsTrue, OnErr, OnOk};
 ghost use Rattle.std.specs.List.{Contains, slice_get};
+ghost use Rattle.pdc_memory.specs.Asking.{SomeWasRefused};
 ghost use Rattle.pdc_frame.specs.declared.limits.TheConstants.{MAX_SIZE};
 ghost use Rattle.pdc_history.specs.Histories.{HasCause, MayBeSent};
 ghost use Rattle.pdc_history.specs.Index.{Fits};
@@ -45,9 +46,10 @@ impl Sent {
     ///
     /// # Errors
     ///
-    /// [`AllocError`] where there is no memory for the buckets.
+    /// [`AllocError`] where a request for the buckets was refused.
     pub fn new(alloc: Global, settings: Settings) -> Result<Sent, AllocError>
-        ensures { IfOk result (λ sent. sent ≡ record { frames = []; has_room = false; settings = settings }) }
+        ensures none { IfOk result (λ sent. sent ≡ record { frames = []; has_room = false; settings = settings }) }
+        ensures refused { OnErr result SomeWasRefused }
     {
         Ok(Sent {
             settings,
@@ -94,12 +96,13 @@ impl Sent {
     ///
     /// # Errors
     ///
-    /// [`AllocError`] where there is none and no memory for it. Nothing is changed then.
+    /// [`AllocError`] where there is none, and a request for it was refused. Nothing is changed then.
     pub fn reserve(&mut self) -> Result<(), AllocError>
         ensures ok { OnOk result (self.new ≡ record self.old { has_room = true }) }
         ensures err { OnErr result (self.new ≡ self.old) }
         ensures room { IsTrue self.old.has_room → IsOk result }
         ensures full { OnErr result (self.old.has_room ≡ false) }
+        ensures refused { OnErr result SomeWasRefused }
     {
         if self.has_room {
             return Ok(());
@@ -128,7 +131,7 @@ impl Sent {
     ///
     /// [`SendFault::Foreign`] where it is no frame of a PMU of the table, [`SendFault::OtherBody`] where its PMU sent another body for the
     /// same instant, [`SendFault::OtherSection`] where it sent another section under the same count, and else
-    /// [`SendFault::NoMemory`] where there is no room for it and no memory. Nothing is changed then.
+    /// [`SendFault::NoMemory`] where there is no room for it, and a request for that was refused. Nothing is changed then.
     pub fn send(&mut self, bytes: &[u8]) -> Result<(), SendFault>
         ensures ok { OnOk result (self.new ≡ with_frame self.old bytes.now) }
         ensures err { OnErr result (self.new ≡ self.old) }
@@ -139,6 +142,7 @@ impl Sent {
         ensures cause { IfErr result (HasCause self.old bytes.now) }
         // Memory is asked for only where it may happen.
         ensures memory { IsErrOf result SendFault.NoMemory → MayBeSent self.old bytes.now }
+        ensures refused { IsErrOf result SendFault.NoMemory → SomeWasRefused }
     {
         let bucket = bucket_for(&self.settings, &self.frames, &self.by_key, bytes)?;
         self.reserve().map_err(|_| SendFault::NoMemory)?;

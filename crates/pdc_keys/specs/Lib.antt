@@ -3,3 +3,5 @@ pub mod Known
 pub mod Near
 pub mod Places
 pub mod Unknown
+pub mod Wanting
+pub use Rattle.pdc_memory.specs as pdc_memory

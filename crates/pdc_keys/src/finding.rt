@@ -1,16 +1,19 @@
 //! Finding the keys that nothing reads.
-ghost use Rattle.std.specs.Prelude.{◌≡◌, ◌++◌, ◌∷◌, [], IfOk, OnOk, map};
+ghost use Rattle.std.specs.Prelude.{◌≡◌, ◌++◌, ◌∷◌, [], IfOk, OnErr, OnOk, map};
 ghost use Rattle.toml.specs.Data.{as_table};
 ghost use Rattle.toml.specs.View.{items_view, table_view, view};
 ghost use Rattle.pdc_keys.specs.Keys.{items_at};
 ghost use Rattle.pdc_keys.specs.Known.{merged_node_keys};
 ghost use Rattle.pdc_keys.specs.Unknown.{is_one_of, keys_in, keys_of, known_of_pmu, unknown_among, unknown_fields, unknown_from, unknown_in, unknown_of};
+ghost use Rattle.pdc_keys.specs.Wanting.{IsWantOfKeys};
 ghost use Rattle.pdc_keys.specs.declared.unknown.TableName.TheVariants.{Node, Pmu};
 
 use crate::keys::{value_at, values_at};
 use crate::known::{merged_node_keys, merged_pmu_keys, pmu_keys, top_keys};
 use crate::nearest::nearest_of;
+use crate::text::text_of;
 use crate::unknown::{TableName, UnknownKey};
+use pdc_memory::make_room;
 use std::alloc::{AllocError, Global};
 use toml::{Table, Value};
 
@@ -31,10 +34,11 @@ fn unknown_of(
     known: &[&'static str],
     key: &str,
 ) -> Result<UnknownKey, AllocError>
-    ensures { IfOk result (λ found. unknown_fields found ≡ unknown_of table (map (λ n. n.now) known.now) key.now) }
+    ensures fields { IfOk result (λ found. unknown_fields found ≡ unknown_of table (map (λ n. n.now) known.now) key.now) }
+    ensures wanted { OnErr result IsWantOfKeys }
 {
     let nearest = nearest_of(alloc, key, known)?;
-    let name = String::from_str(alloc, key)?;
+    let name = text_of(alloc, key)?;
     Ok(UnknownKey {
         table,
         name,
@@ -50,13 +54,15 @@ fn push_key(
     key: &str,
     found: &mut Vec<UnknownKey>,
 ) -> Result<(), AllocError>
-    ensures { OnOk result (map unknown_fields found.new.items ≡ map unknown_fields found.old.items ++ unknown_among table (map (λ n. n.now) known.now) (key.now ∷ [])) }
+    ensures found { OnOk result (map unknown_fields found.new.items ≡ map unknown_fields found.old.items ++ unknown_among table (map (λ n. n.now) known.now) (key.now ∷ [])) }
+    ensures wanted { OnErr result IsWantOfKeys }
 {
     if is_one_of(key, known) {
         return Ok(());
     }
     let unknown = unknown_of(alloc, table, known, key)?;
-    found.push(unknown)?;
+    make_room(found, 1)?;
+    found.push_reserved(unknown);
     Ok(())
 }
 
@@ -68,7 +74,8 @@ fn push_keys(
     members: &Table,
     found: &mut Vec<UnknownKey>,
 ) -> Result<(), AllocError>
-    ensures { OnOk result (map unknown_fields found.new.items ≡ map unknown_fields found.old.items ++ unknown_among table (map (λ n. n.now) known.now) (keys_of (table_view members.now))) }
+    ensures found { OnOk result (map unknown_fields found.new.items ≡ map unknown_fields found.old.items ++ unknown_among table (map (λ n. n.now) known.now) (keys_of (table_view members.now))) }
+    ensures wanted { OnErr result IsWantOfKeys }
 {
     for key in members.keys() {
         push_key(alloc, table, known, key.as_str(), found)?;
@@ -84,7 +91,8 @@ fn push_value(
     value: &Value,
     found: &mut Vec<UnknownKey>,
 ) -> Result<(), AllocError>
-    ensures { OnOk result (map unknown_fields found.new.items ≡ map unknown_fields found.old.items ++ unknown_among table (map (λ n. n.now) known.now) (keys_in (as_table (view value.now)))) }
+    ensures found { OnOk result (map unknown_fields found.new.items ≡ map unknown_fields found.old.items ++ unknown_among table (map (λ n. n.now) known.now) (keys_in (as_table (view value.now)))) }
+    ensures wanted { OnErr result IsWantOfKeys }
 {
     match value.as_table() {
         Some(members) => push_keys(alloc, table, known, members, found),
@@ -98,7 +106,8 @@ fn push_nodes(
     values: &[Value],
     found: &mut Vec<UnknownKey>,
 ) -> Result<(), AllocError>
-    ensures { OnOk result (map unknown_fields found.new.items ≡ map unknown_fields found.old.items ++ unknown_from Node merged_node_keys 1 (items_view values.now)) }
+    ensures found { OnOk result (map unknown_fields found.new.items ≡ map unknown_fields found.old.items ++ unknown_from Node merged_node_keys 1 (items_view values.now)) }
+    ensures wanted { OnErr result IsWantOfKeys }
 {
     for at in 0..values.len() {
         let table = TableName::Node(at + 1);
@@ -114,7 +123,8 @@ fn push_pmus(
     values: &[Value],
     found: &mut Vec<UnknownKey>,
 ) -> Result<(), AllocError>
-    ensures { OnOk result (map unknown_fields found.new.items ≡ map unknown_fields found.old.items ++ unknown_from Pmu (map (λ n. n.now) known.now) 1 (items_view values.now)) }
+    ensures found { OnOk result (map unknown_fields found.new.items ≡ map unknown_fields found.old.items ++ unknown_from Pmu (map (λ n. n.now) known.now) 1 (items_view values.now)) }
+    ensures wanted { OnErr result IsWantOfKeys }
 {
     for at in 0..values.len() {
         let table = TableName::Pmu(at + 1);
@@ -148,9 +158,10 @@ fn listed<'t>(table: &'t Table, key: &str) -> &'t [Value]
 ///
 /// # Errors
 ///
-/// Memory was wanted, and none was to be had.
+/// A request for memory was refused, or `strsim` answered so.
 pub fn unknown_keys_in(alloc: Global, table: &Table) -> Result<Vec<UnknownKey>, AllocError>
-    ensures { IfOk result (λ found. map unknown_fields found.items ≡ unknown_in (table_view table.now)) }
+    ensures found { IfOk result (λ found. map unknown_fields found.items ≡ unknown_in (table_view table.now)) }
+    ensures wanted { OnErr result IsWantOfKeys }
 {
     let mut found = Vec::new(alloc);
     push_keys(alloc, TableName::Top, top_keys(), table, &mut found)?;

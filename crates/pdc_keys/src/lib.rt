@@ -11,6 +11,7 @@ mod known;
 mod limits;
 mod nearest;
 mod places;
+mod text;
 mod unknown;
 mod unread;
 mod wanted;
@@ -20,6 +21,7 @@ pub use keys::{
     number, number_in, number_or, optional_number, optional_number_of, value_at, values_at,
 };
 pub use limits::{MAX_COUNT, MAX_PORT, MAX_TIME_BASE, MILLISECONDS};
+pub use pdc_memory::make_room;
 pub use places::{ip_of, place_of};
 pub use unknown::{TableName, UnknownKey};
 pub use unread::Unread;

@@ -1,15 +1,21 @@
 //! Which known name is nearest to one that is not known.
-ghost use Rattle.std.specs.Prelude.{◌≡◌, IfOk, map, option_map};
+ghost use Rattle.std.specs.Prelude.{◌≡◌, IfOk, OnErr, map, option_map};
 ghost use Rattle.pdc_keys.specs.Near.{edits, is_near, is_slip, nearer, nearest_of};
+ghost use Rattle.pdc_keys.specs.Wanting.{EditsWanted, SomeEditsWanted};
 
 use std::alloc::{AllocError, Global};
 use strsim::osa_distance;
 
 /// How many edits lead from one name to the other.
+#[tactic(auto, unfolding(crate::specs::Wanting::EditsWanted))]
 fn edits(alloc: Global, key: &str, name: &str) -> Result<usize, AllocError>
-    ensures { IfOk result (λ n. n ≡ edits key.now name.now) }
+    ensures count { IfOk result (λ n. n ≡ edits key.now name.now) }
+    ensures wanted { OnErr result (EditsWanted key.now name.now) }
 {
-    osa_distance(alloc, key, name)
+    match osa_distance(alloc, key, name) {
+        Ok(edits) => Ok(edits),
+        Err(error) => Err(error),
+    }
 }
 
 /// Whether so many edits are a slip, in a name of this length.
@@ -21,7 +27,8 @@ fn is_slip(len: usize, edits: usize) -> bool
 
 /// Whether a name is near.
 fn is_near(alloc: Global, key: &str, name: &str) -> Result<bool, AllocError>
-    ensures { IfOk result (λ answer. answer ≡ is_near key.now name.now) }
+    ensures answer { IfOk result (λ answer. answer ≡ is_near key.now name.now) }
+    ensures wanted { OnErr result SomeEditsWanted }
 {
     let edits = edits(alloc, key, name)?;
     Ok(is_slip(key.len(), edits))
@@ -34,7 +41,8 @@ fn nearer(
     name: &'static str,
     other: Option<&'static str>,
 ) -> Result<Option<&'static str>, AllocError>
-    ensures { IfOk result (λ found. option_map (λ n. n.now) found ≡ nearer key.now name.now (option_map (λ n. n.now) other.entry)) }
+    ensures nearer { IfOk result (λ found. option_map (λ n. n.now) found ≡ nearer key.now name.now (option_map (λ n. n.now) other.entry)) }
+    ensures wanted { OnErr result SomeEditsWanted }
 {
     let Some(other) = other else {
         return Ok(Some(name));
@@ -53,7 +61,8 @@ pub(crate) fn nearest_of(
     key: &str,
     names: &[&'static str],
 ) -> Result<Option<&'static str>, AllocError>
-    ensures { IfOk result (λ found. option_map (λ n. n.now) found ≡ nearest_of key.now (map (λ n. n.now) names.now)) }
+    ensures nearest { IfOk result (λ found. option_map (λ n. n.now) found ≡ nearest_of key.now (map (λ n. n.now) names.now)) }
+    ensures wanted { OnErr result SomeEditsWanted }
 {
     let Some((name, others)) = names.split_first() else {
         return Ok(None);

@@ -1,10 +1,12 @@
 //! Places and addresses as values of a document.
-ghost use Rattle.std.specs.Prelude.{◌≡◌, IfOk, IfErr, IfSome, None, Some, option_map, string_bytes};
+ghost use Rattle.std.specs.Prelude.{◌≡◌, IfOk, IfErr, IfSome, IsErrOf, None, Some, option_map, string_bytes};
 ghost use Rattle.std.specs.Str.{all_ascii_digits};
 ghost use Rattle.std.specs.declared.net.ip_addr.IpAddr.{IpAddr};
 ghost use Rattle.toml.specs.View.{view};
+ghost use Rattle.pdc_memory.specs.Asking.{SomeWasRefused};
 ghost use Rattle.pdc_keys.specs.Places.{IsUnread, WritesIp, as_place, behind_colon, is_place};
 
+use crate::text::text_of;
 use crate::unread::Unread;
 use std::alloc::Global;
 use std::net::IpAddr;
@@ -57,9 +59,14 @@ fn is_place(text: &[u8]) -> bool
 }
 
 /// The place that a value names.
+///
+/// # Errors
+///
+/// `NoPlace` where it names none; else `NoMemory`, where a request for its text was refused.
 pub fn place_of(alloc: Global, value: &Value) -> Result<String, Unread>
     ensures value { IfOk result (λ text. as_place (view value.now) ≡ Some (string_bytes text)) }
     ensures fault { IfErr result (IsUnread (as_place (view value.now) ≡ None)) }
+    ensures refused { IsErrOf result Unread.NoMemory → SomeWasRefused }
 {
     let Some(text) = value.as_str() else {
         return Err(Unread::NoPlace);
@@ -67,5 +74,5 @@ pub fn place_of(alloc: Global, value: &Value) -> Result<String, Unread>
     if !is_place(text.as_bytes()) {
         return Err(Unread::NoPlace);
     }
-    String::from_str(alloc, text).map_err(|_| Unread::NoMemory)
+    text_of(alloc, text).map_err(|_| Unread::NoMemory)
 }

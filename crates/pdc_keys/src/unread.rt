@@ -5,6 +5,6 @@
 pub enum Unread {
     /// They are no places, or too many.
     NoPlace,
-    /// Memory was wanted, and none was to be had.
+    /// A request for memory was refused.
     NoMemory,
 }

@@ -7,3 +7,5 @@ pub mod Mistake
 pub mod Network
 pub mod Said
 pub mod Settings
+pub mod Wanting
+pub use Rattle.pdc_keys.specs.pdc_memory

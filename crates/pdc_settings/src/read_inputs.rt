@@ -1,16 +1,17 @@
 //! Reading how the frames of each stream come.
-ghost use Rattle.std.specs.Prelude.{◌≡◌, IfOk, IfErr, None, OnErr, Option, Some, option_map, string_bytes};
+ghost use Rattle.std.specs.Prelude.{◌≡◌, IfOk, IfErr, IsErrOf, None, OnErr, Option, Some, option_map, string_bytes};
 ghost use Rattle.std.specs.declared.net.ip_addr.IpAddr.{IpAddr};
 ghost use Rattle.toml.specs.View.{items_view, table_view, view};
 ghost use Rattle.pdc_settings.specs.Inputs.{EachSays, HasFrom, IsInput, IsNoInput, IsOneOf, at_key, commands_of, most_count_of, streams_in, tcp_of};
 ghost use Rattle.pdc_settings.specs.Network.{fault_at};
+ghost use Rattle.pdc_keys.specs.pdc_memory.Asking.{SomeWasRefused};
 ghost use Rattle.pdc_keys.specs.Places.{IsUnread, as_place};
 
 use crate::document::is_merger;
 use crate::fault::SettingsFault;
 use crate::input::Input;
 use pdc_keys::{
-    MAX_COUNT, Unread, Wanted, ip_of, optional_number_of, place_of, value_at, values_at,
+    MAX_COUNT, Unread, Wanted, ip_of, make_room, optional_number_of, place_of, value_at, values_at,
 };
 use std::alloc::Global;
 use std::net::IpAddr;
@@ -41,6 +42,7 @@ fn at_key<'t>(value: &'t Value, key: &str) -> Option<&'t Value>
 fn some_place(alloc: Global, value: &Value) -> Result<Option<String>, Unread>
     ensures value { IfOk result (λ text. option_map (λ t. Some t) (as_place (view value.now)) ≡ Some (option_map string_bytes text)) }
     ensures fault { IfErr result (IsUnread (option_map (λ t. Some t) (as_place (view value.now)) ≡ None)) }
+    ensures refused { IsErrOf result Unread.NoMemory → SomeWasRefused }
 {
     match place_of(alloc, value) {
         Ok(text) => Ok(Some(text)),
@@ -52,6 +54,7 @@ fn some_place(alloc: Global, value: &Value) -> Result<Option<String>, Unread>
 fn tcp_place(alloc: Global, value: &Value) -> Result<Option<String>, Unread>
     ensures value { IfOk result (λ text. tcp_of (view value.now) ≡ Some (option_map string_bytes text)) }
     ensures fault { IfErr result (IsUnread (tcp_of (view value.now) ≡ None)) }
+    ensures refused { IsErrOf result Unread.NoMemory → SomeWasRefused }
 {
     match at_key(value, "tcp") {
         Some(text) => some_place(alloc, text),
@@ -63,6 +66,7 @@ fn tcp_place(alloc: Global, value: &Value) -> Result<Option<String>, Unread>
 fn commands_place(alloc: Global, value: &Value) -> Result<Option<String>, Unread>
     ensures value { IfOk result (λ text. commands_of (view value.now) ≡ Some (option_map string_bytes text)) }
     ensures fault { IfErr result (IsUnread (commands_of (view value.now) ≡ None)) }
+    ensures refused { IsErrOf result Unread.NoMemory → SomeWasRefused }
 {
     match at_key(value, "commands") {
         Some(text) => match at_key(value, "tcp") {
@@ -104,6 +108,7 @@ pub(crate) fn fault_of(unread: Unread, wanted: Wanted) -> SettingsFault
 fn tcp_of(alloc: Global, value: &Value) -> Result<Option<String>, SettingsFault>
     ensures value { IfOk result (λ text. tcp_of (view value.now) ≡ Some (option_map string_bytes text)) }
     ensures fault { IfErr result (λ fault. IsNoInput fault (view value.now)) }
+    ensures refused { IsErrOf result SettingsFault.NoMemory → SomeWasRefused }
 {
     match tcp_place(alloc, value) {
         Ok(text) => Ok(text),
@@ -115,6 +120,7 @@ fn tcp_of(alloc: Global, value: &Value) -> Result<Option<String>, SettingsFault>
 fn commands_of(alloc: Global, value: &Value) -> Result<Option<String>, SettingsFault>
     ensures value { IfOk result (λ text. commands_of (view value.now) ≡ Some (option_map string_bytes text)) }
     ensures fault { IfErr result (λ fault. IsNoInput fault (view value.now)) }
+    ensures refused { IsErrOf result SettingsFault.NoMemory → SomeWasRefused }
 {
     match commands_place(alloc, value) {
         Ok(text) => Ok(text),
@@ -126,6 +132,7 @@ fn commands_of(alloc: Global, value: &Value) -> Result<Option<String>, SettingsF
 fn address_of(value: &Value) -> Result<Option<IpAddr>, SettingsFault>
     ensures value { IfOk result (HasFrom (view value.now)) }
     ensures fault { IfErr result (λ fault. IsNoInput fault (view value.now)) }
+    ensures refused { IsErrOf result SettingsFault.NoMemory → SomeWasRefused }
 {
     match from_of(value) {
         Ok(from) => Ok(from),
@@ -137,6 +144,7 @@ fn address_of(value: &Value) -> Result<Option<IpAddr>, SettingsFault>
 fn most_count_of(value: &Value) -> Result<Option<u16>, SettingsFault>
     ensures value { IfOk result (λ most. most_count_of (view value.now) ≡ Some most) }
     ensures fault { IfErr result (λ fault. IsNoInput fault (view value.now)) }
+    ensures refused { IsErrOf result SettingsFault.NoMemory → SomeWasRefused }
 {
     match optional_number_of(at_key(value, "most_count"), 1, MAX_COUNT) {
         Some(most) => Ok(most),
@@ -148,6 +156,7 @@ fn most_count_of(value: &Value) -> Result<Option<u16>, SettingsFault>
 pub(crate) fn read_input(alloc: Global, value: &Value) -> Result<Input, SettingsFault>
     ensures value { IfOk result (IsInput (view value.now)) }
     ensures fault { IfErr result (λ fault. IsNoInput fault (view value.now)) }
+    ensures refused { IsErrOf result SettingsFault.NoMemory → SomeWasRefused }
 {
     let tcp = tcp_of(alloc, value)?;
     let commands = commands_of(alloc, value)?;
@@ -165,6 +174,7 @@ pub(crate) fn read_input(alloc: Global, value: &Value) -> Result<Input, Settings
 pub(crate) fn read_inputs(alloc: Global, values: &[Value]) -> Result<Vec<Input>, SettingsFault>
     ensures value { IfOk result (λ inputs. EachSays IsInput (items_view values.now) inputs.items) }
     ensures fault { IfErr result (λ fault. IsOneOf (IsNoInput fault) (items_view values.now)) }
+    ensures refused { IsErrOf result SettingsFault.NoMemory → SomeWasRefused }
 {
     let mut inputs = Vec::new(alloc);
     for value in values {
@@ -172,9 +182,10 @@ pub(crate) fn read_inputs(alloc: Global, values: &[Value]) -> Result<Vec<Input>,
             Ok(input) => input,
             Err(fault) => return Err(fault),
         };
-        if inputs.push(input).is_err() {
+        if make_room(&mut inputs, 1).is_err() {
             return Err(SettingsFault::NoMemory);
         }
+        inputs.push_reserved(input);
     }
     Ok(inputs)
 }

@@ -1,5 +1,5 @@
 //! Reading the settings of the merger.
-ghost use Rattle.std.specs.Prelude.{◌≡◌, ◌<◌, ◌≤◌, ◌∷◌, ◌&&◌, IfOk, IfErr, IfSome, IsTrue, None, is_some, OnErr, OnOk, Some, false, length, nat_le, nat_lt, true};
+ghost use Rattle.std.specs.Prelude.{◌≡◌, ◌<◌, ◌≤◌, ◌∷◌, ◌&&◌, IfOk, IfErr, IfSome, IsErrOf, IsTrue, None, is_some, OnErr, OnOk, Some, false, length, nat_le, nat_lt, true};
 ghost use Rattle.std.specs.List.{list_all};
 ghost use Rattle.toml.specs.View.{items_view, table_view, view};
 ghost use Rattle.pdc_frame.specs.declared.limits.TheConstants.{MAX_ID};
@@ -9,6 +9,7 @@ ghost use Rattle.pdc_settings.specs.Entries.{each_of, first_node_in, first_port_
 ghost use Rattle.pdc_settings.specs.Kind.{is_merger};
 ghost use Rattle.pdc_settings.specs.Said.{SaysMerger};
 ghost use Rattle.pdc_settings.specs.Settings.{IsCommon, IsFaultOf, IsMergerFault, IsMergerSettings, are_merger_ids, has_merger_keys};
+ghost use Rattle.pdc_settings.specs.Wanting.{IsTomlWant};
 
 use crate::common::{Common, read_common};
 use crate::distinct::{has_id, ids_differ};
@@ -196,6 +197,7 @@ fn life_of(
 fn read_settings(table: &Table) -> Result<MergerSettings, SettingsFault>
     ensures value { IfOk result (IsMergerSettings (table_view table.now)) }
     ensures fault { IfErr result (IsMergerFault (table_view table.now)) }
+    ensures memory { IsErrOf result SettingsFault.NoMemory → ⊥ }
 {
     match read_parts(table) {
         Ok((common, first, second, sources)) => {
@@ -220,10 +222,11 @@ impl MergerSettings {
     /// # Errors
     ///
     /// `Toml` where the text is no TOML; else `Range`, with the key, where one is missing, of another type or out of its range; else
-    /// `DoubledId` where two ids are the same that must differ; `NoMemory` where memory was wanted.
+    /// `DoubledId` where two ids are the same that must differ; `NoMemory` where `toml` answered that memory was wanted.
     pub fn from_toml(alloc: Global, text: &str) -> Result<MergerSettings, SettingsFault>
         ensures value { IfOk result (SaysMerger text.now) }
         ensures fault { IfErr result (IsFaultOf IsMergerFault text.now) }
+        ensures wanted { IsErrOf result SettingsFault.NoMemory → IsTomlWant text.now }
     {
         let table = document(alloc, text)?;
         read_settings(&table)

@@ -1,14 +1,16 @@
 //! Reading where a concentrator is on the network.
-ghost use Rattle.std.specs.Prelude.{◌≡◌, ◌≤◌, IfOk, IfErr, IfSome, None, OnErr, Some, codes, map, nat_le, option_and_then, option_map, length, string_bytes};
+ghost use Rattle.std.specs.Prelude.{◌≡◌, ◌≤◌, IfOk, IfErr, IfSome, IsErrOf, None, OnErr, Some, codes, map, nat_le, option_and_then, option_map, length, string_bytes};
 ghost use Rattle.std.specs.declared.net.ip_addr.IpAddr.{IpAddr};
 ghost use Rattle.toml.specs.Data.{as_array, get_member};
 ghost use Rattle.toml.specs.View.{items_view, table_view, view};
 ghost use Rattle.pdc_settings.specs.Entries.{each_of};
 ghost use Rattle.pdc_settings.specs.Inputs.{EachSays, IsInput, streams_in};
 ghost use Rattle.pdc_settings.specs.Network.{IsAddress, IsKeyFault, IsNetwork, IsNetworkFault, few_outputs, fault_of, metrics_port_in, outputs_of, receive_buffer_in, sessions_in, ttl_in};
+ghost use Rattle.pdc_keys.specs.pdc_memory.Asking.{SomeWasRefused};
 ghost use Rattle.pdc_keys.specs.Places.{IsUnread, as_place};
 ghost use Rattle.pdc_settings.specs.Said.{SaysNetwork};
 ghost use Rattle.pdc_settings.specs.Settings.{IsFaultOf};
+ghost use Rattle.pdc_settings.specs.Wanting.{IsWant};
 
 use crate::document::document;
 use crate::fault::SettingsFault;
@@ -17,7 +19,9 @@ use crate::network::{
     MAX_OUTPUTS, MAX_RECEIVE_BUFFER, MAX_SESSIONS, MAX_TTL, Network, RECEIVE_BUFFER, SESSIONS, TTL,
 };
 use crate::read_inputs::{fault_of, read_inputs, streams_of};
-use pdc_keys::{MAX_PORT, Unread, Wanted, ip_of, number_or, optional_number, place_of, value_at};
+use pdc_keys::{
+    MAX_PORT, Unread, Wanted, ip_of, make_room, number_or, optional_number, place_of, value_at,
+};
 use std::alloc::Global;
 use std::net::IpAddr;
 use toml::{Table, Value};
@@ -38,6 +42,7 @@ fn address(table: &Table) -> Result<IpAddr, Wanted>
 fn texts_of(alloc: Global, values: &[Value]) -> Result<Vec<String>, Unread>
     ensures value { IfOk result (λ texts. each_of as_place (items_view values.now) ≡ Some (map string_bytes texts.items)) }
     ensures fault { IfErr result (IsUnread (each_of as_place (items_view values.now) ≡ None)) }
+    ensures refused { IsErrOf result Unread.NoMemory → SomeWasRefused }
 {
     let mut texts = Vec::new(alloc);
     for value in values {
@@ -45,9 +50,10 @@ fn texts_of(alloc: Global, values: &[Value]) -> Result<Vec<String>, Unread>
             Ok(text) => text,
             Err(unread) => return Err(unread),
         };
-        if texts.push(text).is_err() {
+        if make_room(&mut texts, 1).is_err() {
             return Err(Unread::NoMemory);
         }
+        texts.push_reserved(text);
     }
     Ok(texts)
 }
@@ -73,6 +79,7 @@ fn values_of(value: &Value) -> Option<&[Value]>
 fn few_texts(alloc: Global, value: &Value) -> Result<Vec<String>, Unread>
     ensures value { IfOk result (λ texts. option_and_then few_outputs (as_array (view value.now)) ≡ Some (map string_bytes texts.items)) }
     ensures fault { IfErr result (IsUnread (option_and_then few_outputs (as_array (view value.now)) ≡ None)) }
+    ensures refused { IsErrOf result Unread.NoMemory → SomeWasRefused }
 {
     let Some(values) = values_of(value) else {
         return Err(Unread::NoPlace);
@@ -88,6 +95,7 @@ fn few_texts(alloc: Global, value: &Value) -> Result<Vec<String>, Unread>
 fn outputs(alloc: Global, table: &Table) -> Result<Vec<String>, Unread>
     ensures value { IfOk result (λ texts. outputs_of (get_member (codes "outputs") (table_view table.now)) ≡ Some (map string_bytes texts.items)) }
     ensures fault { IfErr result (IsUnread (outputs_of (get_member (codes "outputs") (table_view table.now)) ≡ None)) }
+    ensures refused { IsErrOf result Unread.NoMemory → SomeWasRefused }
 {
     match value_at(table, "outputs") {
         Some(value) => few_texts(alloc, value),
@@ -107,6 +115,7 @@ fn read_keys(alloc: Global, table: &Table, inputs: Vec<Input>) -> Result<Network
     requires inputs { EachSays IsInput (streams_in (table_view table.now)) inputs.items }
     ensures value { IfOk result (IsNetwork (table_view table.now)) }
     ensures fault { IfErr result (IsKeyFault (table_view table.now)) }
+    ensures refused { IsErrOf result SettingsFault.NoMemory → SomeWasRefused }
 {
     let address = address(table).map_err(SettingsFault::Range)?;
     let outputs = outputs(alloc, table).map_err(outputs_fault)?;
@@ -139,6 +148,7 @@ fn read_keys(alloc: Global, table: &Table, inputs: Vec<Input>) -> Result<Network
 fn read_network(alloc: Global, table: &Table) -> Result<Network, SettingsFault>
     ensures value { IfOk result (IsNetwork (table_view table.now)) }
     ensures fault { IfErr result (IsNetworkFault (table_view table.now)) }
+    ensures refused { IsErrOf result SettingsFault.NoMemory → SomeWasRefused }
 {
     let inputs = match read_inputs(alloc, streams_of(table)) {
         Ok(inputs) => inputs,
@@ -156,10 +166,11 @@ impl Network {
     /// # Errors
     ///
     /// `Toml` where the text is no TOML; else `Range`, with the key, where the value at one is of another type or out of its range;
-    /// `NoMemory` where memory was wanted.
+    /// `NoMemory` where `toml` answered that memory was wanted, or a request was refused.
     pub fn from_toml(alloc: Global, text: &str) -> Result<Network, SettingsFault>
         ensures value { IfOk result (SaysNetwork text.now) }
         ensures fault { IfErr result (IsFaultOf IsNetworkFault text.now) }
+        ensures wanted { IsErrOf result SettingsFault.NoMemory → IsWant text.now }
     {
         let table = document(alloc, text)?;
         read_network(alloc, &table)

@@ -1,5 +1,5 @@
 //! Reading the settings of a node.
-ghost use Rattle.std.specs.Prelude.{◌≡◌, ◌≤◌, ◌∷◌, ◌&&◌, IfOk, IfErr, IfSome, IsTrue, None, OnErr, OnOk, Some, false, true, length, map, nat_le};
+ghost use Rattle.std.specs.Prelude.{◌≡◌, ◌≤◌, ◌∷◌, ◌&&◌, IfOk, IfErr, IfSome, IsErrOf, IsTrue, None, OnErr, OnOk, Some, false, true, length, map, nat_le};
 ghost use Rattle.std.specs.List.{list_all};
 ghost use Rattle.toml.specs.View.{items_view, table_view, view};
 ghost use Rattle.pdc_life.specs.pdc_row.declared.limits.TheConstants.{MAX_PMUS};
@@ -9,6 +9,7 @@ ghost use Rattle.pdc_settings.specs.Kind.{is_merger};
 ghost use Rattle.pdc_settings.specs.Said.{SaysNode};
 ghost use Rattle.pdc_settings.specs.Settings.{IsCommon, IsFaultOf, IsNodeFault, IsNodeSettings, are_node_ids, has_node_keys};
 ghost use Rattle.pdc_life.specs.Distinct.{are_distinct};
+ghost use Rattle.pdc_settings.specs.Wanting.{IsTomlWant};
 
 use crate::common::{Common, read_common};
 use crate::distinct::{has_source, has_stream, sources_differ, streams_differ};
@@ -145,6 +146,7 @@ fn life_of(output: Output, timing: Timing, pmus: ArrayVec<Pmu, MAX_PMUS>) -> Opt
 fn read_settings(table: &Table) -> Result<NodeSettings, SettingsFault>
     ensures value { IfOk result (IsNodeSettings (table_view table.now)) }
     ensures fault { IfErr result (IsNodeFault (table_view table.now)) }
+    ensures memory { IsErrOf result SettingsFault.NoMemory → ⊥ }
 {
     match read_parts(table) {
         Ok((common, pmus, ports)) => {
@@ -167,10 +169,11 @@ impl NodeSettings {
     /// # Errors
     ///
     /// `Toml` where the text is no TOML; else `Range`, with the key, where one is missing, of another type or out of its range; else
-    /// `DoubledId` where two ids are the same that must differ; `NoMemory` where memory was wanted.
+    /// `DoubledId` where two ids are the same that must differ; `NoMemory` where `toml` answered that memory was wanted.
     pub fn from_toml(alloc: Global, text: &str) -> Result<NodeSettings, SettingsFault>
         ensures value { IfOk result (SaysNode text.now) }
         ensures fault { IfErr result (IsFaultOf IsNodeFault text.now) }
+        ensures wanted { IsErrOf result SettingsFault.NoMemory → IsTomlWant text.now }
     {
         let table = document(alloc, text)?;
         read_settings(&table)

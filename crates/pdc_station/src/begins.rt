@@ -1,5 +1,6 @@
 //! The first life of a station.
-ghost use Rattle.std.specs.Prelude.{◌≡◌, ◌<◌, [], IfOk};
+ghost use Rattle.std.specs.Prelude.{◌≡◌, ◌<◌, [], IfOk, OnErr};
+ghost use Rattle.pdc_core.specs.pdc_memory.Asking.{SomeWasRefused};
 ghost use Rattle.pdc_mark.specs.Stored.{with_next_start};
 ghost use Rattle.pdc_publisher.specs.Publisher.{lead_in, mark_in};
 
@@ -21,7 +22,7 @@ impl<C: Opens, M: Store + Drop> Station<C, M> {
     ///
     /// # Errors
     ///
-    /// [`AllocError`] where there is no memory for the core.
+    /// [`AllocError`] where a request for the memory of the core was refused.
     pub fn begun(
         alloc: Global,
         settings: C::Settings,
@@ -34,6 +35,7 @@ impl<C: Opens, M: Store + Drop> Station<C, M> {
             (M.stored (mark_in station.publisher)).start (M.stored (mark_in station.publisher)).floor (M.stored (mark_in station.publisher)).counts) []) }
         ensures settings { IfOk result (λ station. C.settings_of station.core ≡ settings) }
         ensures lead { IfOk result (λ station. lead_in station.publisher ≡ lead) }
+        ensures refused { OnErr result SomeWasRefused }
     {
         begin_next(&mut mark);
         let (start, floor) = mark.stored();

@@ -85,7 +85,8 @@ impl<C: Opens, M: Store> Station<C, M> {
     ///
     /// # Errors
     ///
-    /// [`AllocError`] where `out` has no room for a frame of the most bytes and gets none. Then nothing was taken out.
+    /// [`AllocError`] where `out` has no room for a frame of the most bytes, and its request for that was refused. Then nothing was taken
+    /// out.
     pub fn publish<B: Buffer>(&mut self, out: &mut B) -> Result<Option<DueRow>, AllocError>
         ensures answer { (g : Given) (E : List Entry) → C.stands_for self.old.core g E →
             IfOk result (λ row. option_map row_view row ≡ pop_answer E) }
@@ -102,6 +103,7 @@ impl<C: Opens, M: Store> Station<C, M> {
             (record { life = answered C.rules g E ToPop ∷ E; popped = C.popped_of self.new.core; bytes = B.content out.new })) }
         ensures err { OnErr result ((B.content out.new ≡ B.content out.old) × (self.new ≡ self.old)) }
         ensures room { length (B.content out.old) + MAX_ROW_LEN ≤ B.capacity out.old → IsOk result }
+        ensures refused { OnErr result (B.refused out.new MAX_ROW_LEN) }
         ensures settings { C.settings_of self.new.core ≡ C.settings_of self.old.core }
         ensures lead { lead_in self.new.publisher ≡ lead_in self.old.publisher }
     {

@@ -1,6 +1,7 @@
 //! Stops of a station: its life ends, and the next one begins with what the mark then stores. It is opened before anything is stored,
 //! so a stop that is refused changes nothing.
 ghost use Rattle.std.specs.Prelude.{◌≡◌, ◌+◌, ◌*◌, ◌<◌, ◌≤◌, ◌↔◌, [], IfNone, IfOk, IfSome, IsErrOf, OnErr, OnOk, if◌then◌else◌};
+ghost use Rattle.pdc_core.specs.pdc_memory.Asking.{SomeWasRefused};
 ghost use Rattle.pdc_mark.specs.Stored.{with_due};
 ghost use Rattle.pdc_publisher.specs.Publisher.{lead_in, mark_in, output_in};
 ghost use Rattle.pdc_station.specs.Station.{FallsAt, HasStopped, IsOfSomeLife, left_by, start_left, stop_in_publish};
@@ -114,6 +115,7 @@ fn opened<C: Opens>(core: &C, alloc: Global, stored: &Stored) -> Result<C, StopF
     ensures popped { IfOk result (λ next. C.popped_of next ≡ stored.now.floor) }
     ensures left { OnOk result (stored.now.start < u32.MAX) }
     ensures used_up { IsErrOf result StopFault.StartsUsedUp ↔ (stored.now.start ≡ u32.MAX) }
+    ensures refused { IsErrOf result StopFault.NoMemory → SomeWasRefused }
 {
     if stored.start == u32::MAX {
         return Err(StopFault::StartsUsedUp);
@@ -130,13 +132,14 @@ impl<C: Opens, M: Store> Station<C, M> {
     ///
     /// # Errors
     ///
-    /// `StartsUsedUp` where what is left is the last start number; `NoMemory` where there is no memory for the next life. Then nothing
-    /// changes.
+    /// `StartsUsedUp` where what is left is the last start number; `NoMemory` where a request for the memory of the next life was refused.
+    /// Then nothing changes.
     pub fn stop(&mut self, alloc: Global, at: StopAt) -> Result<(), StopFault>
         ensures stops { OnOk result (HasStopped M.stored M.stops_as (C.stands_for self.old.core) at (lead_in self.old.publisher) (mark_in self.old.publisher) (mark_in self.new.publisher)) }
         ensures stands { OnOk result (C.stands_for self.new.core (C.given_with (C.settings_of self.old.core)
             (M.stored (mark_in self.new.publisher)).start (M.stored (mark_in self.new.publisher)).floor (M.stored (mark_in self.new.publisher)).counts) []) }
         ensures used_up { IsErrOf result StopFault.StartsUsedUp ↔ (u32.MAX ≤ start_left at (M.stored (mark_in self.old.publisher)).start) }
+        ensures refused { IsErrOf result StopFault.NoMemory → SomeWasRefused }
         ensures err { OnErr result (self.new ≡ self.old) }
         ensures settings { C.settings_of self.new.core ≡ C.settings_of self.old.core }
         ensures lead { lead_in self.new.publisher ≡ lead_in self.old.publisher }

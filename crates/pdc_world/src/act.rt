@@ -1,6 +1,7 @@
 //! What one core is asked.
 ghost use Rattle.std.specs.Prelude.{◌≡◌, IsErrOf, OnErr};
 ghost use Rattle.pdc_history.specs.declared.event_fault.Fault.TheVariants.{NoMemory};
+ghost use Rattle.pdc_core.specs.pdc_memory.Asking.{SomeWasRefused};
 ghost use Rattle.pdc_history.specs.Handed.{asked_of};
 ghost use Rattle.pdc_station.specs.pdc_publisher.Publisher.{lead_in};
 ghost use Rattle.pdc_world.specs.Acts.{IsMade, IsRefused, IsSomePart};
@@ -34,6 +35,7 @@ pub(crate) fn act<C: Plays, S: Store>(
     ensures err { OnErr result ((station.new ≡ station.old) × (ledger_view ledger.new ≡ ledger_view ledger.old)
         × (ledger_has_room ledger.new ≡ ledger_has_room ledger.old)) }
     ensures room { HasRoomFor (ledger_has_room ledger.old) (asked_of event.now) → IsErrOf result NoMemory → ⊥ }
+    ensures refused { IsErrOf result NoMemory → SomeWasRefused }
     ensures settings { C.settings_of station.new.core ≡ C.settings_of station.old.core }
     ensures lead { lead_in station.new.publisher ≡ lead_in station.old.publisher }
 {

@@ -1,6 +1,8 @@
 //! All of it at once.
-ghost use Rattle.std.specs.Prelude.{IfErr, List, OnOk, map};
+ghost use Rattle.std.specs.Prelude.{◌≡◌, IfErr, List, OnOk, map};
 ghost use Rattle.std.specs.List.{AllByRecursion};
+ghost use Rattle.pdc_core.specs.pdc_memory.Asking.{SomeWasRefused};
+ghost use Rattle.pdc_history.specs.declared.event_fault.Fault.TheVariants.{NoMemory};
 ghost use Rattle.pdc_history.specs.Handed.{asked_of};
 ghost use Rattle.pdc_world.specs.Headline.{Headline};
 ghost use Rattle.pdc_world.specs.Seen.{rows_of, seen_of};
@@ -43,6 +45,7 @@ pub fn play_under_headline<S: Store>(
     ensures exact { (W : Fixed) (H : List Happened) → Holds W H world.new → AllByRecursion (IsRowAt W H) (published H) }
     ensures made { (W : Fixed) (H : List Happened) → Holds W H world.old → OnOk result (IsPlayed W H (map asked_of events.now) world.new) }
     ensures cut { (W : Fixed) (H : List Happened) → Holds W H world.old → IfErr result (λ fault. IsCutShort W H (map asked_of events.now) fault world.new) }
+    ensures refused { IfErr result (λ fault. fault.fault ≡ NoMemory → SomeWasRefused) }
 {
     headline_holds(world);
     let played = world.play(events);

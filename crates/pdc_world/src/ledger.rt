@@ -1,5 +1,6 @@
 //! What was sent and published.
 ghost use Rattle.std.specs.Prelude.{◌≡◌, ◌≤◌, ◌<◌, ◌∷◌, ◌++◌, [], IfOk, IsOk, IsTrue, OnErr, OnOk, length, true, vec_capacity, vec_len};
+ghost use Rattle.pdc_core.specs.pdc_memory.Asking.{SomeWasRefused};
 ghost use Rattle.pdc_history.specs.declared.reply.Published.{Published};
 ghost use Rattle.pdc_frame.specs.declared.limits.TheConstants.{MAX_SIZE};
 ghost use Rattle.pdc_history.specs.Sent.{IsOfNone};
@@ -7,7 +8,7 @@ ghost use Rattle.pdc_world.specs.Ledger.{IsReady, ledger_has_room, ledger_view};
 
 use pdc_core::Core;
 use pdc_frame::{Buffer, MAX_SIZE};
-use pdc_history::{Published, Sent, Who};
+use pdc_history::{Published, Sent, Who, make_room};
 use pdc_life::Settings;
 use std::alloc::{AllocError, Global};
 
@@ -25,9 +26,10 @@ pub(crate) struct Ledger {
 impl Ledger {
     ghost use Rattle.pdc_world.specs.Ledger.{IsReady, ledger_has_room, ledger_view};
 
-    /// Nothing was sent.
+    /// Nothing was sent. It fails where a request for memory was refused.
     pub(crate) fn new(alloc: Global, settings: Settings) -> Result<Ledger, AllocError>
-        ensures { IfOk result (λ ledger. ledger_view ledger ≡ record { table = settings; frames = []; published = [] }) }
+        ensures none { IfOk result (λ ledger. ledger_view ledger ≡ record { table = settings; frames = []; published = [] }) }
+        ensures refused { OnErr result SomeWasRefused }
     {
         Ok(Ledger {
             sent: Sent::new(alloc, settings)?,
@@ -36,16 +38,17 @@ impl Ledger {
         })
     }
 
-    /// Makes room for one frame and one row more. Where there is room, it takes no memory.
+    /// Makes room for one frame and one row more. Where there is room, it takes no memory; it fails where a request for it was refused.
     pub(crate) fn make_room(&mut self) -> Result<(), AllocError>
         ensures ready { OnOk result (IsReady self.new) }
         ensures made { OnOk result (ledger_has_room self.new ≡ true) }
         ensures same { ledger_view self.new ≡ ledger_view self.old }
         ensures room { IsTrue (ledger_has_room self.old) → IsOk result }
         ensures err { OnErr result (ledger_has_room self.new ≡ ledger_has_room self.old) }
+        ensures refused { OnErr result SomeWasRefused }
     {
         self.sent.reserve()?;
-        self.published.reserve(1)?;
+        make_room(&mut self.published, 1)?;
         self.frame.clear();
         self.frame.make_room(MAX_SIZE)
     }

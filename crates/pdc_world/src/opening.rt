@@ -1,6 +1,7 @@
 //! How a world begins.
-ghost use Rattle.std.specs.Prelude.{◌≡◌, ◌≢◌, [], IfErr, IfOk, nat_lt, true};
-ghost use Rattle.pdc_history.specs.declared.event_fault.Fault.TheVariants.{StartsUsedUp};
+ghost use Rattle.std.specs.Prelude.{◌≡◌, ◌≢◌, [], IfErr, IfOk, OnErr, nat_lt, true};
+ghost use Rattle.pdc_core.specs.pdc_memory.Asking.{SomeWasRefused};
+ghost use Rattle.pdc_history.specs.declared.event_fault.Fault.TheVariants.{NoMemory, StartsUsedUp};
 ghost use Rattle.pdc_mark.specs.Stored.{first_stored};
 ghost use Rattle.pdc_world.specs.Agreement.{do_agree};
 ghost use Rattle.pdc_world.specs.Holds.{Holds};
@@ -54,7 +55,8 @@ impl<S: Store + Drop> World<S> {
     ) -> Result<World<S>, AllocError>
         requires agree { do_agree a b m ≡ true }
         requires left { are_left (S.stored stores.0) (S.stored stores.1) (S.stored stores.2) ≡ true }
-        ensures { IfOk result (λ world. Holds (world_of a b m leads (S.stored stores.0) (S.stored stores.1) (S.stored stores.2)) [] world) }
+        ensures holds { IfOk result (λ world. Holds (world_of a b m leads (S.stored stores.0) (S.stored stores.1) (S.stored stores.2)) [] world) }
+        ensures refused { OnErr result SomeWasRefused }
     {
         let (of_a, of_b, of_m) = stores;
         let ledger = Ledger::new(alloc, copy_of(&a))?;
@@ -72,7 +74,7 @@ impl<S: Store + Drop> World<S> {
     /// # Errors
     ///
     /// At event 0: a broken premise where the settings do not agree, else `StartsUsedUp` where a store has no next start, and else
-    /// `NoMemory`.
+    /// `NoMemory`, where a request for memory was refused.
     pub fn over(
         alloc: Global,
         a: Settings,
@@ -83,6 +85,7 @@ impl<S: Store + Drop> World<S> {
     ) -> Result<World<S>, WorldFault>
         ensures holds { IfOk result (λ world. Holds (world_of a b m leads (S.stored stores.0) (S.stored stores.1) (S.stored stores.2)) [] world) }
         ensures fault { IfErr result (IsOpeningFault (world_of a b m leads (S.stored stores.0) (S.stored stores.1) (S.stored stores.2))) }
+        ensures refused { IfErr result (λ fault. fault.fault ≡ NoMemory → SomeWasRefused) }
     {
         if !are_agreed(&a, &b, &m) {
             return Err(WorldFault {
@@ -111,7 +114,7 @@ impl World<ModelMark> {
     ///
     /// # Errors
     ///
-    /// At event 0: a broken premise where the settings do not agree, and else `NoMemory`.
+    /// At event 0: a broken premise where the settings do not agree, and else `NoMemory`, where a request for memory was refused.
     pub fn new(
         alloc: Global,
         a: Settings,
@@ -122,6 +125,7 @@ impl World<ModelMark> {
         ensures holds { IfOk result (λ world. Holds (world_of a b m leads first_stored first_stored first_stored) [] world) }
         ensures fault { IfErr result (IsOpeningFault (world_of a b m leads first_stored first_stored first_stored)) }
         ensures starts { IfErr result (λ fault. fault.fault ≢ StartsUsedUp) }
+        ensures refused { IfErr result (λ fault. fault.fault ≡ NoMemory → SomeWasRefused) }
     {
         let stores = (
             ModelMark::new(0, 0),

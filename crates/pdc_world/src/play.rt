@@ -1,5 +1,7 @@
 //! Lists of events.
-ghost use Rattle.std.specs.Prelude.{IfErr, List, OnOk, map};
+ghost use Rattle.std.specs.Prelude.{◌≡◌, IfErr, List, OnOk, map};
+ghost use Rattle.pdc_core.specs.pdc_memory.Asking.{SomeWasRefused};
+ghost use Rattle.pdc_history.specs.declared.event_fault.Fault.TheVariants.{NoMemory};
 ghost use Rattle.pdc_history.specs.Handed.{asked_of};
 ghost use Rattle.pdc_history.specs.World.{Happened, World as Fixed};
 ghost use Rattle.pdc_world.specs.Holds.{Holds, HoldsSome, IsCutShort, IsPlayed};
@@ -17,6 +19,7 @@ impl<S: Store> World<S> {
     pub fn play(&mut self, events: &[Event<'_>]) -> Result<(), WorldFault>
         ensures made { (W : Fixed) (H : List Happened) → Holds W H self.old → OnOk result (IsPlayed W H (map asked_of events.now) self.new) }
         ensures cut { (W : Fixed) (H : List Happened) → Holds W H self.old → IfErr result (λ fault. IsCutShort W H (map asked_of events.now) fault self.new) }
+        ensures refused { IfErr result (λ fault. fault.fault ≡ NoMemory → SomeWasRefused) }
     {
         for (index, event) in events.iter().enumerate() {
             if let Err(fault) = self.step(event) {

@@ -1,5 +1,6 @@
 //! Publishes.
 ghost use Rattle.std.specs.Prelude.{◌≡◌, ◌≤◌, ◌<◌, ◌++◌, IfErr, IfSome, IsOk, IsTrue, OnErr, length, option_map, vec_capacity, vec_len};
+ghost use Rattle.pdc_core.specs.pdc_memory.Asking.{SomeWasRefused};
 ghost use Rattle.pdc_history.specs.declared.event_fault.Fault.TheVariants.{NoMemory};
 ghost use Rattle.pdc_history.specs.Handed.{who_of};
 ghost use Rattle.pdc_history.specs.Asked as asked;
@@ -58,6 +59,7 @@ pub(crate) fn publish<C: Plays, S: Store>(
     ensures err { OnErr result ((station.new ≡ station.old) × (ledger_view ledger.new ≡ ledger_view ledger.old)
         × (ledger_has_room ledger.new ≡ ledger_has_room ledger.old)) }
     ensures room { IsTrue (ledger_has_room ledger.old) → IsOk result }
+    ensures refused { OnErr result SomeWasRefused }
     ensures settings { C.settings_of station.new.core ≡ C.settings_of station.old.core }
     ensures lead { lead_in station.new.publisher ≡ lead_in station.old.publisher }
 {

@@ -1,6 +1,7 @@
 //! Sends.
 ghost use Rattle.std.specs.Prelude.{◌≡◌, IfErr, IfOk, IsErrOf, IsTrue, List, OnErr};
 ghost use Rattle.pdc_history.specs.declared.event_fault.Fault.TheVariants.{NoMemory};
+ghost use Rattle.pdc_core.specs.pdc_memory.Asking.{SomeWasRefused};
 ghost use Rattle.pdc_history.specs.Asked as asked;
 ghost use Rattle.pdc_history.specs.World.{Happened, World};
 ghost use Rattle.pdc_world.specs.Acts.{IsSend, IsWhy, Keeps, fault_of_send};
@@ -28,6 +29,7 @@ pub(crate) fn send(ledger: &mut Ledger, bytes: &[u8]) -> Result<Reply, Fault>
     ensures why { (W : World) (H : List Happened) → Keeps W H (ledger_view ledger.old) → IfErr result (IsWhy W H (asked.Send bytes.now)) }
     ensures err { OnErr result ((ledger_view ledger.new ≡ ledger_view ledger.old) × (ledger_has_room ledger.new ≡ ledger_has_room ledger.old)) }
     ensures room { IsTrue (ledger_has_room ledger.old) → IsErrOf result NoMemory → ⊥ }
+    ensures refused { IsErrOf result NoMemory → SomeWasRefused }
 {
     asked_is_event_or_fault();
     let number = ledger.sent.len();

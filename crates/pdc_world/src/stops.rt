@@ -1,5 +1,7 @@
 //! Stops.
-ghost use Rattle.std.specs.Prelude.{◌≡◌, ◌^◌, ◌<◌, OnErr};
+ghost use Rattle.std.specs.Prelude.{◌≡◌, ◌^◌, ◌<◌, IsErrOf, OnErr};
+ghost use Rattle.pdc_history.specs.declared.event_fault.Fault.TheVariants.{NoMemory};
+ghost use Rattle.pdc_core.specs.pdc_memory.Asking.{SomeWasRefused};
 ghost use Rattle.pdc_history.specs.declared.reply.Reply.TheVariants.{Stopped};
 ghost use Rattle.pdc_history.specs.declared.act.Act.TheVariants.{Stop};
 ghost use Rattle.pdc_history.specs.Handed.{act_of, who_of};
@@ -47,6 +49,7 @@ pub(crate) fn stop<C: Plays, S: Store>(
     ensures why { IsRefused (who_of who) (asked.Do (who_of who) (act_of (Stop at)))
         (⟦<Station<C, S> as Sits>⟧.seat station.old) (ledger_view ledger.now) result }
     ensures err { OnErr result (station.new ≡ station.old) }
+    ensures refused { IsErrOf result NoMemory → SomeWasRefused }
     ensures settings { C.settings_of station.new.core ≡ C.settings_of station.old.core }
     ensures lead { lead_in station.new.publisher ≡ lead_in station.old.publisher }
 {

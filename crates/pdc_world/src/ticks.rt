@@ -1,5 +1,6 @@
 //! Ticks.
 ghost use Rattle.std.specs.Prelude.{◌≡◌, [], ◌∷◌, ◌++◌, IfErr, IsOk, IsTrue, List, OnErr};
+ghost use Rattle.pdc_core.specs.pdc_memory.Asking.{SomeWasRefused};
 ghost use Rattle.pdc_life.specs.Given.{Given};
 ghost use Rattle.pdc_life.specs.Life.{Entry};
 ghost use Rattle.pdc_life.specs.Published.{layout_wire};
@@ -45,6 +46,7 @@ pub(crate) fn tick<C: Plays, S: Store>(
     ensures err { OnErr result ((station.new ≡ station.old) × (ledger_view ledger.new ≡ ledger_view ledger.old)
         × (ledger_has_room ledger.new ≡ ledger_has_room ledger.old)) }
     ensures room { IsTrue (ledger_has_room ledger.old) → IsOk result }
+    ensures refused { OnErr result SomeWasRefused }
     ensures settings { C.settings_of station.new.core ≡ C.settings_of station.old.core }
     ensures lead { lead_in station.new.publisher ≡ lead_in station.old.publisher }
 {

@@ -2,6 +2,7 @@
 ghost use Rattle.std.specs.Prelude.{◌≡◌, IfErr, IfOk, IsErrOf, IsOk, IsTrue, List, OnErr, OnOk, length, option_map, true};
 ghost use Rattle.std.specs.List.{slice_get};
 ghost use Rattle.pdc_history.specs.declared.event_fault.Fault.TheVariants.{NoMemory};
+ghost use Rattle.pdc_core.specs.pdc_memory.Asking.{SomeWasRefused};
 ghost use Rattle.pdc_history.specs.Handed.{asked_of, fault_of};
 ghost use Rattle.pdc_history.specs.Asked.{Cause, IsFault};
 ghost use Rattle.pdc_history.specs.World.{Happened, World as Fixed};
@@ -71,6 +72,7 @@ impl<S: Store> World<S> {
         ensures why { (W : Fixed) (H : List Happened) → Holds W H self.old → IfErr result (IsWhy W H (asked_of event.now)) }
         ensures err { OnErr result (self.new ≡ self.old) }
         ensures room { HasRoomFor self.old.has_room (asked_of event.now) → IsErrOf result NoMemory → ⊥ }
+        ensures refused { IsErrOf result NoMemory → SomeWasRefused }
     {
         match receiver(event) {
             Who::A => act(&mut self.a, &mut self.ledger, self.alloc, event),
@@ -83,11 +85,12 @@ impl<S: Store> World<S> {
     ///
     /// # Errors
     ///
-    /// [`AllocError`] where there is no memory for it. Then nothing changes.
+    /// [`AllocError`] where a request for that room was refused. Then nothing changes.
     pub fn reserve(&mut self) -> Result<(), AllocError>
         ensures ok { OnOk result (self.new ≡ record self.old { has_room = true }) }
         ensures err { OnErr result (self.new ≡ self.old) }
         ensures room { IsTrue self.old.has_room → IsOk result }
+        ensures refused { OnErr result SomeWasRefused }
     {
         self.ledger.make_room()
     }
@@ -97,7 +100,8 @@ impl<S: Store> World<S> {
     ///
     /// # Errors
     ///
-    /// Where it may not: a premise that it breaks, `NoSuchFrame` or `StartsUsedUp`; and else `NoMemory`. Then nothing changes.
+    /// Where it may not: a premise that it breaks, `NoSuchFrame` or `StartsUsedUp`; and else `NoMemory`, where a request for memory was
+    /// refused. Then nothing changes.
     pub fn step(&mut self, event: &Event<'_>) -> Result<Reply, Fault>
         ensures made { (W : Fixed) (H : List Happened) → Holds W H self.old → IfOk result (λ reply. IsAnswered W H (asked_of event.now) reply self.new) }
         ensures why { (W : Fixed) (H : List Happened) → Holds W H self.old → IfErr result (IsWhy W H (asked_of event.now)) }
@@ -106,6 +110,7 @@ impl<S: Store> World<S> {
             IsErrOf result (fault_of cause) }
         ensures err { OnErr result (self.new ≡ self.old) }
         ensures room { HasRoomFor self.old.has_room (asked_of event.now) → IsErrOf result NoMemory → ⊥ }
+        ensures refused { IsErrOf result NoMemory → SomeWasRefused }
     {
         asked_is_event_or_fault();
         self.act_for(event)

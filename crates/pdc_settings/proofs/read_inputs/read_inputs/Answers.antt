@@ -1,5 +1,4 @@
 use Rattle.std.proofs.Common.{◌+◌, ◌∙◌, ◌++◌, ◌∷◌, [], length, take, ap, arith, subst, sym}
-use Rattle.std.specs.Prelude.{if◌then◌else◌}
 use Rattle.std.proofs.lemmas.List.{length-append}
 use Rattle.toml.specs.View.{items_view}
 use Rattle.pdc_settings.specs.Inputs.{EachSays, IsInput, IsNoInput}
@@ -12,7 +11,7 @@ returns-in-Err-clause-fault c =
 
 pub loop-value-preserved : goal.loop-value-preserved
 loop-value-preserved c =
-    let pushed = c.push.ensures.items ∙ ap (λ b. if b then c.loop-value.inputs.items ++ c.in-Ok.input ∷ [] else c.loop-value.inputs.items) c.if-is_err.ensures.negation in
+    let pushed = c.push_reserved.ensures.items ∙ ap (λ inputs. inputs ++ c.in-Ok.input ∷ []) c.make_room.ensures.items in
     record {
       len = ap length pushed ∙ length-append c.loop-value.inputs.items (c.in-Ok.input ∷ []) ∙ ap (λ n. n + 1) c.loop-value.invariant.len;
       end = c.loop-value.invariant.end;

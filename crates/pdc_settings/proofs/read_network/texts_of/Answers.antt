@@ -1,5 +1,5 @@
 use Rattle.std.proofs.Common.{◌+◌, ◌∙◌, ◌++◌, ◌∷◌, [], length, ap, map, sym, arith, Some}
-use Rattle.std.specs.Prelude.{if◌then◌else◌, string_bytes}
+use Rattle.std.specs.Prelude.{string_bytes}
 use Rattle.std.proofs.lemmas.List.{map_push, length-append}
 use Rattle.pdc_keys.specs.Places.{as_place}
 use Rattle.pdc_settings.proofs.Tables.{each-taken, none-taken, unread-of}
@@ -12,7 +12,7 @@ returns-in-Err-clause-fault c =
 
 pub loop-value-preserved : goal.loop-value-preserved
 loop-value-preserved c =
-    let pushed = c.push.ensures.items ∙ ap (λ b. if b then c.loop-value.texts.items ++ c.in-Ok.text ∷ [] else c.loop-value.texts.items) c.if-is_err.ensures.negation in
+    let pushed = c.push_reserved.ensures.items ∙ ap (λ texts. texts ++ c.in-Ok.text ∷ []) c.make_room.ensures.items in
     record {
       len = ap length pushed ∙ length-append c.loop-value.texts.items (c.in-Ok.text ∷ []) ∙ ap (λ n. n + 1) c.loop-value.invariant.len;
       end = c.loop-value.invariant.end;
