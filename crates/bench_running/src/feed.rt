@@ -2,7 +2,7 @@
 ghost use Rattle.std.specs.Prelude.{◌≡◌, ◌≤◌, ℕ, length};
 
 use crate::frames::FLOOR;
-use pdc_ports::{Next, Sink, SinkFault, Source, Ticker};
+use pdc_ports::{Next, Numbered, Outcome, Sink, SinkFault, Source, Ticker};
 use pdc_service::Outlet;
 use std::sync::atomic::{AtomicU64, Ordering};
 use std::thread;
@@ -65,6 +65,8 @@ impl<'a> Source for Feed<'a> {
         self.given = self.given.saturating_add(1);
         Next::Datagram(len)
     }
+
+    fn answered(&mut self, _answer: Option<Numbered<Outcome>>) {}
 
     fn failures(&self) -> u64 {
         0

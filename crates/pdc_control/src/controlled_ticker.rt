@@ -41,7 +41,9 @@ impl<'a, K: Ticker + Drop, R: Wait> ControlledTicker<'a, K, R> {
         control: Option<&'a Control>,
         counters: RunCounters<'a>,
         inner: K,
-    ) -> ControlledTicker<'a, K, R> {
+    ) -> ControlledTicker<'a, K, R>
+        ensures { result.inner ≡ inner }
+    {
         ControlledTicker {
             rt,
             alloc,

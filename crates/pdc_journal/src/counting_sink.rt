@@ -27,12 +27,13 @@ impl<'a, K: Sink + Drop> CountingSink<'a, K> {
     }
 }
 
-/// The inner sink took some of what this one was handed, in the same order; all of it where it refused nothing.
+/// The inner sink took what this one was handed, in the same order, each frame but those that it refused, which were counted one by one.
 impl<'a, K: Sink + Drop> Sink for CountingSink<'a, K> {
-    ghost use Rattle.pdc_journal.specs.Among.{AreAmong};
+    ghost use Rattle.pdc_journal.specs.Among.{AreAmong, AreCounted};
     ghost use Rattle.std.proofs.Common.{[], refl};
 
-    ghost took = { λ before now given. (some : List (List ℕ)) × K.took before.inner now.inner some × AreAmong some given × (now.refused ≡ 0 → some ≡ given) };
+    ghost took = { λ before now given. (some : List (List ℕ)) × K.took before.inner now.inner some
+        × AreAmong some given × AreCounted before.refused now.refused some given };
 
     ghost nothing = { λ s. ([], K.nothing s.inner, refl, λ _. refl) };
 

@@ -40,7 +40,9 @@ impl<'a, S: Source + Drop, R: Wait + Clock> ObservedSource<'a, S, R> {
         hearing: Hearing,
         watchers: Watchers<'a>,
         inner: S,
-    ) -> ObservedSource<'a, S, R> {
+    ) -> ObservedSource<'a, S, R>
+        ensures { result.inner ≡ inner }
+    {
         ObservedSource {
             rt,
             alloc,
@@ -103,6 +105,8 @@ fn take<R: Wait + Clock>(
 
 impl<'a, S: Source + Drop, R: Wait + Clock> Source for ObservedSource<'a, S, R> {
     ghost told = { λ s heard. S.told s.inner heard };
+
+    ghost was_answered = { λ s answers. S.was_answered s.inner answers };
 
     ghost failures_of = { λ s. S.failures_of s.inner };
 

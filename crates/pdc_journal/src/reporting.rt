@@ -1,4 +1,5 @@
 //! A ticker that tells counters.
+ghost use Rattle.std.specs.Prelude.{◌≡◌};
 
 use crate::counters::{
     counters_line, left_out_line, lost_line, missing_line, output_line, strangers_line, tally_line,
@@ -53,7 +54,9 @@ impl<'a, T: Ticker + Drop, R: Clock + Wait> Reporting<'a, T, R> {
         counters: RunCounters<'a>,
         ticker: T,
         every: Option<u32>,
-    ) -> Reporting<'a, T, R> {
+    ) -> Reporting<'a, T, R>
+        ensures { result.ticker ≡ ticker }
+    {
         Reporting {
             rt,
             alloc,

@@ -5,7 +5,7 @@ ghost use Rattle.pdc_network.specs.Received.{host_bits, is_read};
 
 use crate::receive::{Receive, is_idle};
 use crate::receive_buffer::set_receive_buffer;
-use pdc_ports::{Next, Source};
+use pdc_ports::{Next, Numbered, Outcome, Source};
 use std::io;
 use std::net::{IpAddr, Net, SocketAddr, UdpSocket};
 use std::time::Duration;
@@ -166,6 +166,8 @@ impl<S: Receive + Drop> Source for UdpSource<S> {
             }
         }
     }
+
+    fn answered(&mut self, _answer: Option<Numbered<Outcome>>) {}
 
     fn failures(&self) -> u64 {
         self.failures

@@ -40,7 +40,9 @@ impl<'a, S: Source + Drop, R: Wait + Clock> RecordedSource<'a, S, R> {
         recording: Option<&'a Recording>,
         stream: u16,
         inner: S,
-    ) -> RecordedSource<'a, S, R> {
+    ) -> RecordedSource<'a, S, R>
+        ensures { result.inner ≡ inner }
+    {
         let recorded = recording.map(|recording| Recorded {
             recording,
             stream,
@@ -104,6 +106,8 @@ fn note<R: Wait>(rt: &R, recorded: &Recorded<'_>, answer: Option<Numbered<Outcom
 
 impl<'a, S: Source + Drop, R: Wait + Clock> Source for RecordedSource<'a, S, R> {
     ghost told = { λ s heard. S.told s.inner heard };
+
+    ghost was_answered = { λ s answers. S.was_answered s.inner answers };
 
     ghost failures_of = { λ s. S.failures_of s.inner };
 

@@ -1,5 +1,5 @@
 //! A ticker whose ticks, and what the aligner does at them, are recorded.
-ghost use Rattle.std.specs.Prelude.{ℕ, List};
+ghost use Rattle.std.specs.Prelude.{◌≡◌, ℕ, List};
 
 use crate::recording::Recording;
 use crate::time::nanoseconds_now;
@@ -18,7 +18,9 @@ pub struct RecordedTicker<'a, K: Ticker + Drop, R: Wait + Clock> {
 
 impl<'a, K: Ticker + Drop, R: Wait + Clock> RecordedTicker<'a, K, R> {
     /// Records what the aligner does, where the life is recorded.
-    pub fn new(rt: &'a R, recording: Option<&'a Recording>, inner: K) -> RecordedTicker<'a, K, R> {
+    pub fn new(rt: &'a R, recording: Option<&'a Recording>, inner: K) -> RecordedTicker<'a, K, R>
+        ensures { result.inner ≡ inner }
+    {
         RecordedTicker {
             rt,
             recording,

@@ -4,33 +4,41 @@ ghost use Rattle.pdc_ticking.specs.Instants.{instant_of};
 
 use crate::deadlines::NANOSECONDS;
 use crate::metronome::Timepiece;
+use crate::rated::Rated;
 use pdc_ports::Ticker;
+use std::marker::PhantomData;
 use std::sync::atomic::{AtomicBool, Ordering};
 
 /// Waits for the next deadline, and then gives the instant that the clock shows. It ends after a number of ticks, where one is given, and
 /// where the clock cannot be read; then it sets a flag.
 #[derive(Drop)]
-pub struct ClockTicker<'a, T: Timepiece + Drop> {
+pub struct ClockTicker<'a, T: Timepiece + Drop, N: Rated> {
     time: T,
     rate: u16,
     /// How many ticks are left; without end where there is none.
     left: Option<u32>,
     is_unreadable: &'a AtomicBool,
+    of: PhantomData<N>,
+    pub ghost rate_is: { rate ≡ N.rate },
 }
 
-impl<'a, T: Timepiece + Drop> ClockTicker<'a, T> {
+impl<'a, T: Timepiece + Drop, N: Rated> ClockTicker<'a, T, N> {
     /// So many ticks by this clock, at so many frames in a second, or ticks without end. The flag is set where the clock cannot be read.
     pub fn new(
         time: T,
         rate: u16,
         ticks: Option<u32>,
         is_unreadable: &'a AtomicBool,
-    ) -> ClockTicker<'a, T> {
+    ) -> ClockTicker<'a, T, N>
+        requires { rate ≡ N.rate }
+        ensures { result.time ≡ time }
+    {
         ClockTicker {
             time,
             rate,
             left: ticks,
             is_unreadable,
+            of: PhantomData,
         }
     }
 }
@@ -44,9 +52,10 @@ pub fn instant_at(nanoseconds: u128, rate: u16) -> u64
     u64::try_from(instant).unwrap_or(u64::MAX)
 }
 
-/// It gave the instants of the times that the clock showed.
-impl<'a, T: Timepiece + Drop> Ticker for ClockTicker<'a, T> {
-    ghost gave = { λ s nows. (times : List ℕ) × T.showed s.time times × (nows ≡ map (instant_of s.rate) times) };
+/// It gave the instants, at its rate, of the times that the clock showed.
+impl<'a, T: Timepiece + Drop, N: Rated> Ticker for ClockTicker<'a, T, N> {
+    ghost gave = { λ s nows. (times : List ℕ) × T.showed s.time times
+        × (nows ≡ map (instant_of N.rate) times) };
 
     fn next(&mut self) -> Option<u64> {
         if let Some(left) = self.left {

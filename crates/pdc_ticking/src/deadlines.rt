@@ -115,7 +115,8 @@ impl Deadlines {
     /// What a ticker notes that found this, and had noted that: it gives the tick of the next deadline, and may leave a late call.
     pub fn noted(&self, found: Found, given: Given) -> Given
         ensures deadline { result.deadline ≡ min (found.moment + found.wait) (2 ^ 64 - 1) }
-        ensures left { result.left ≡ (if leaves (span_of self.now / parts_of self.now) found.moment found.late given.left then Some found.moment else given.left) }
+        ensures left { result.left ≡ (if leaves (span_of self.now / parts_of self.now) found.moment
+            found.late given.left then Some found.moment else given.left) }
     {
         let left = if self.leaves(found, given.left) {
             Some(found.moment)

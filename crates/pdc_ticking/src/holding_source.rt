@@ -75,7 +75,9 @@ impl<'a, S: Source + Drop, R: Wait + Clock> HoldingSource<'a, S, R> {
         patience: Option<Patience<'a>>,
         wake: Option<&'a Wake>,
         inner: S,
-    ) -> HoldingSource<'a, S, R> {
+    ) -> HoldingSource<'a, S, R>
+        ensures { result.inner ≡ inner }
+    {
         HoldingSource {
             rt,
             patience,
@@ -87,6 +89,8 @@ impl<'a, S: Source + Drop, R: Wait + Clock> HoldingSource<'a, S, R> {
 
 impl<'a, S: Source + Drop, R: Wait + Clock> Source for HoldingSource<'a, S, R> {
     ghost told = { λ s heard. S.told s.inner heard };
+
+    ghost was_answered = { λ s answers. S.was_answered s.inner answers };
 
     ghost failures_of = { λ s. S.failures_of s.inner };
 

@@ -81,6 +81,7 @@ impl<'a, K: Ticker + Drop, R: Wait + Clock> WatchedTicker<'a, K, R> {
         inner: K,
     ) -> WatchedTicker<'a, K, R>
         requires { 1 ≤ rate }
+        ensures { result.inner ≡ inner }
     {
         WatchedTicker {
             rt,

@@ -1,7 +1,7 @@
 //! A source and a ticker of the trial.
 ghost use Rattle.std.specs.Prelude.{◌≡◌, ◌≤◌, ℕ, length};
 
-use pdc_threads::{Next, Source, Ticker};
+use pdc_threads::{Next, Numbered, Outcome, Source, Ticker};
 
 /// Gives datagrams that are told in hexadecimal, one after the other.
 #[derive(Drop)]
@@ -47,6 +47,8 @@ impl Source for Listed {
             None => Next::End,
         }
     }
+
+    fn answered(&mut self, _answer: Option<Numbered<Outcome>>) {}
 
     fn failures(&self) -> u64 {
         0

@@ -1,7 +1,7 @@
 //! A source that tells how much it delivered, and a ticker that waits for it.
 ghost use Rattle.std.specs.Prelude.{◌≡◌, ◌≤◌, ℕ, length};
 
-use pdc_ports::{Next, Source, Ticker};
+use pdc_ports::{Next, Numbered, Outcome, Source, Ticker};
 use std::rt::Clock;
 use std::sync::atomic::{AtomicU64, Ordering};
 use std::thread;
@@ -70,6 +70,10 @@ impl<'a, S: Source + Drop> Source for Watched<'a, S> {
         let next = self.inner.next(buffer);
         self.gave = matches!(next, Next::Datagram(_));
         next
+    }
+
+    fn answered(&mut self, answer: Option<Numbered<Outcome>>) {
+        self.inner.answered(answer);
     }
 
     fn failures(&self) -> u64 {

@@ -31,6 +31,7 @@ returns-in_default g c = record {
       subst (λ most. HasPassed (IsHeardBy g.S.Receive.received g.D.Dial.dialed g.D.Stream.Read.remaining g.D.Stream.Write.contents c.next-next.new.self) most (heard ++ heard_by c.next-next.result c.next-next.new.buffer ∷ [])) (sym c.is_left_out.ensures.same)
       (passes (IsHeardBy g.S.Receive.received g.D.Dial.dialed g.D.Stream.Read.remaining g.D.Stream.Write.contents c.args.self.now.way) (IsHeardBy g.S.Receive.received g.D.Dial.dialed g.D.Stream.Read.remaining g.D.Stream.Write.contents c.next-next.new.self) (most_of c.args.self.now.limit) heard
       (heard_by c.next-next.result c.next-next.new.buffer) has c.next-next.ensures.tells (c.if-is_left_out.ensures.stays refl));
+  answers = λ before t. t;
   more = omega arith;
   datagram = c.next-next.ensures.datagram;
   row = λ n is. absurd (c.in_default.not-Datagram n is);
