@@ -5,17 +5,18 @@ use Rattle.pdc_publisher.specs.declared.publisher.Publisher.{Publisher}
 use Rattle.pdc_publisher.specs.Publisher.{has_failed_in, mark_in}
 use Rattle.pdc_hub.specs.declared.fault.HubFault.{HubFault}
 use Rattle.pdc_hub.specs.declared.fault.HubFault.TheVariants.{Device, NoMemory, Stuck}
+use Rattle.pdc_hub.specs.pdc_memory.Asking.{SomeWasRefused}
 
--- The aligner fails so: by its mark's device, for want of memory, or where the channel's other end is gone.
+-- The aligner fails so: by its mark's device, for want of memory where a request was refused, or where the channel's other end is gone.
 abbrev pub IsOfAligner : HubFault → Type 0
 IsOfAligner Device = Unit {0}
-IsOfAligner NoMemory = Unit {0}
+IsOfAligner NoMemory = SomeWasRefused
 IsOfAligner Stuck = Unit {0}
 IsOfAligner _ = ⊥
 
 -- and, where it puts a layout, by no device
 abbrev pub IsOfLayout : HubFault → Type 0
-IsOfLayout NoMemory = Unit {0}
+IsOfLayout NoMemory = SomeWasRefused
 IsOfLayout Stuck = Unit {0}
 IsOfLayout _ = ⊥
 

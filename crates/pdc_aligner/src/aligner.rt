@@ -13,9 +13,11 @@ ghost use Rattle.pdc_hub.specs.Adding.{AddsTick};
 ghost use Rattle.pdc_hub.specs.Closing.{closing_of};
 ghost use Rattle.pdc_hub.specs.Pops.{HasAllTop, HasAllTurns, HasSameShares, PopsNothing};
 ghost use Rattle.pdc_log.specs.Log.{HasLooked, InTheLife};
+ghost use mathlib.Core.List.{IsPrefix};
 ghost use Rattle.pdc_pipe.specs.Writing.{GoesOn, IsOpen, put_by};
 ghost use Rattle.pdc_pipe.specs.declared.message.Message.TheVariants.{End};
 ghost use Rattle.pdc_pipe.specs.declared.message.Message.{Message};
+ghost use Rattle.pdc_ports.specs.pdc_arrival.Counts.{counts_after};
 ghost use Rattle.pdc_publisher.specs.Publisher.{last_in, lead_in, mark_in, output_in};
 
 use crate::clearing::tick_cleared;
@@ -25,6 +27,7 @@ use crate::publishing::publish_due;
 use pdc_align::Ticked;
 use pdc_core::Core;
 use pdc_hub::{Hub, HubFault, Ledgers, Naming, Pops};
+use pdc_log::Front;
 use pdc_mark::Mark;
 use pdc_pipe::{Message, Writer, close};
 use pdc_ports::{Did, MAX_PMUS, Numbered, Ticker, Told};
@@ -177,18 +180,21 @@ fn turn<C: Core + Drop, N: Naming<C::Settings>, M: Mark, K: Ticker, R: Wait>(
     }
 }
 
-/// How the run stands: the counts are read under the lock.
+/// How the run stands: the counts are read under the lock, of the life with all that was seen.
 fn told_of<C: Core + Drop, N: Naming<C::Settings>, M: Mark, R: Wait>(
     rt: &R,
     hub: &Hub<C, N>,
+    seen: &mut Front<N>,
     publisher: &Publisher<M>,
     published: u64,
 ) -> Told
+    ensures later { IsPrefix seen.old seen.new }
+    ensures counts { InTheLife C.rules N.given seen.new (λ g E. result.counts ≡ counts_after E) }
     ensures published { result.published ≡ published }
     ensures last { result.last ≡ last_in publisher.now }
 {
     Told {
-        counts: hub.counts(rt),
+        counts: hub.counts_behind(rt, seen),
         published,
         last: publisher.last(),
     }
@@ -198,6 +204,7 @@ fn told_of<C: Core + Drop, N: Naming<C::Settings>, M: Mark, R: Wait>(
 fn tell<C: Core + Drop, N: Naming<C::Settings>, M: Mark, K: Ticker, R: Wait>(
     rt: &R,
     hub: &Hub<C, N>,
+    seen: &mut Front<N>,
     publisher: &Publisher<M>,
     published: u64,
     ticker: &mut K,
@@ -205,7 +212,7 @@ fn tell<C: Core + Drop, N: Naming<C::Settings>, M: Mark, K: Ticker, R: Wait>(
     ensures { GivesNone K.gave ticker.old ticker.new }
 {
     if ticker.wants_counts() {
-        ticker.tell(&told_of(rt, hub, publisher, published));
+        ticker.tell(&told_of(rt, hub, seen, publisher, published));
     }
 }
 
@@ -259,7 +266,15 @@ fn turns<C: Core + Drop, N: Naming<C::Settings>, M: Mark, K: Ticker, R: Wait>(
             Err(fault) => return Err(fault),
         }
         let published = aligner.pops.count() - first;
-        tell(rt, hub, &aligner.publisher, published, &mut aligner.ticker);
+        let mut seen = aligner.pops.front.again();
+        tell(
+            rt,
+            hub,
+            &mut seen,
+            &aligner.publisher,
+            published,
+            &mut aligner.ticker,
+        );
     }
     unreachable!()
 }

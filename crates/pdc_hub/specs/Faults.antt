@@ -1,9 +1,10 @@
--- Why a delivery failed.
+-- Why a delivery failed. For want of memory nothing fails but where a request was refused.
 use Rattle.pdc_hub.specs.declared.fault.HubFault.{HubFault}
 use Rattle.pdc_hub.specs.declared.fault.HubFault.TheVariants.{SinkFault, NoMemory, CountsUsedUp, Device}
+use Rattle.pdc_memory.specs.Asking.{SomeWasRefused}
 
 abbrev pub IsOfDelivery : HubFault → Type 0
-IsOfDelivery NoMemory = Unit {0}
+IsOfDelivery NoMemory = SomeWasRefused
 IsOfDelivery CountsUsedUp = Unit {0}
 IsOfDelivery _ = ⊥
 
@@ -11,4 +12,5 @@ IsOfDelivery _ = ⊥
 abbrev pub IsOfReceiver : HubFault → Type 0
 IsOfReceiver SinkFault = ⊥
 IsOfReceiver Device = ⊥
+IsOfReceiver NoMemory = SomeWasRefused
 IsOfReceiver _ = Unit {0}

@@ -8,3 +8,4 @@ pub mod Opened
 pub mod Pops
 pub mod Received
 pub mod Replay
+pub use Rattle.pdc_memory.specs as pdc_memory

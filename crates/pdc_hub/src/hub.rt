@@ -4,6 +4,7 @@ ghost use Rattle.pdc_core.specs.KeptArrival.{taken_view};
 ghost use Rattle.pdc_core.specs.Step.{ticked_of};
 ghost use Rattle.pdc_life.specs.Answer.{waiting_counts};
 ghost use Rattle.pdc_life.specs.Row.{is_whole};
+ghost use Rattle.pdc_ports.specs.pdc_arrival.Counts.{counts_after};
 ghost use Rattle.pdc_hub.specs.Adding.{AddsArrival, AddsPop, AddsTick, IsLayoutBehind};
 ghost use Rattle.pdc_hub.specs.Closing.{closing_of};
 ghost use Rattle.pdc_hub.specs.Counted.{AreAllParts, AreAsBefore, AreSomeParts, HasSameAmounts, HasSameParts, sum_of};
@@ -13,7 +14,7 @@ ghost use Rattle.pdc_hub.specs.Pops.{CanBeTagged, HasAllTop, HasAllTurns, OnlyLo
 ghost use Rattle.pdc_hub.specs.Pops.{HasPoppedNone, HasPoppedOne, HasSameShares};
 ghost use Rattle.pdc_hub.specs.Replay.{AreSaid, WasRead};
 ghost use Rattle.pdc_log.specs.Log.{InTheLife, came_in};
-ghost use Rattle.pdc_memory.specs.Asking.{WasRefused};
+ghost use Rattle.pdc_memory.specs.Asking.{ForSome, WasRefused};
 ghost use mathlib.Core.List.{IsPrefix};
 
 use crate::fault::HubFault;
@@ -189,7 +190,7 @@ impl<C: Core + Drop, N: Naming<C::Settings>> Hub<C, N> {
         ensures looked { OnlyLooks pops.old pops.new }
         ensures layout { OnOk result (IsLayoutBehind C.rules N.given pops.new.front soc
             (B.content out.old) (B.content out.new)) }
-        ensures causes { OnErr result (result ≡ Err HubFault.NoMemory) }
+        ensures causes { OnErr result ((result ≡ Err HubFault.NoMemory) × ForSome (B.refused out.new)) }
         ensures err { OnErr result (B.content out.new ≡ B.content out.old) }
     {
         self.table.lock(rt).layout(rt, pops, soc, out)
@@ -198,6 +199,14 @@ impl<C: Core + Drop, N: Naming<C::Settings>> Hub<C, N> {
     /// How arrivals were answered.
     pub fn counts<R: Wait>(&self, rt: &R) -> Counts {
         self.table.lock(rt).counts()
+    }
+
+    /// How arrivals were answered in the life with all that the caller had seen, and what others added since.
+    pub fn counts_behind<R: Wait>(&self, rt: &R, seen: &mut Front<N>) -> Counts
+        ensures later { IsPrefix seen.old seen.new }
+        ensures counts { InTheLife C.rules N.given seen.new (λ g E. result ≡ counts_after E) }
+    {
+        self.table.lock(rt).counts_behind(rt, seen)
     }
 
     /// How arrivals were answered. Who has all parts learns that these are the amounts of the shares.

@@ -26,6 +26,7 @@ pub use hub::Hub;
 pub use intake::{Inlet, Intake};
 pub use ledgers::{ConfiguredIn, Ledgers, RefusedIn, TakenIn, TopIn};
 pub use naming::Naming;
+pub use pdc_memory::{make_room, with_room};
 pub use pops::Pops;
 pub use receiver::{Received, receive};
 pub use replayed::Replayed;

@@ -10,7 +10,7 @@ ghost use Rattle.pdc_hub.specs.Pops.{CanBeTagged, HasAllTop, HasAllTurns, OnlyLo
 ghost use Rattle.pdc_hub.specs.Pops.{HasPoppedNone, HasPoppedOne, HasSameShares};
 ghost use Rattle.pdc_hub.specs.Replay.{WasRead};
 ghost use Rattle.pdc_log.specs.Log.{HasLooked, came_in, turned_in};
-ghost use Rattle.pdc_memory.specs.Asking.{WasRefused};
+ghost use Rattle.pdc_memory.specs.Asking.{ForSome, WasRefused};
 
 use crate::fault::HubFault;
 use crate::ledgers::{ConfiguredIn, Ledgers, RefusedIn, TakenIn, TopIn, TurnsIn};
@@ -297,7 +297,7 @@ impl<C: Core + Drop, N: Naming<C::Settings>> LockedCore<C, N> {
         ensures looked { OnlyLooks pops.old pops.new }
         ensures layout { OnOk result (IsLayoutBehind C.rules N.given pops.new.front soc
             (B.content out.old) (B.content out.new)) }
-        ensures causes { OnErr result (result ≡ Err HubFault.NoMemory) }
+        ensures causes { OnErr result ((result ≡ Err HubFault.NoMemory) × ForSome (B.refused out.new)) }
         ensures err { OnErr result (B.content out.new ≡ B.content out.old) }
     {
         self.show(rt, pops);

@@ -2,6 +2,7 @@
 ghost use Rattle.std.specs.Prelude.{◌≡◌};
 ghost use Rattle.pdc_life.specs.Answer.{waiting_counts};
 ghost use Rattle.pdc_life.specs.Row.{is_whole};
+ghost use Rattle.pdc_ports.specs.pdc_arrival.Counts.{counts_after};
 ghost use Rattle.pdc_hub.specs.Counted.{AreAllParts, HasSameAmounts, HasSameParts, HaveCountedAs, configurations, sum_of};
 ghost use Rattle.pdc_hub.specs.Pops.{HasAllTurns, OnlyLooks};
 ghost use Rattle.pdc_hub.specs.Replay.{AreSaid, WasRead};
@@ -91,5 +92,14 @@ impl<C: Core + Drop, N: Naming<C::Settings>> LockedCore<C, N> {
     {
         self.core.log.look(rt, seen);
         self.core.state.is_whole()
+    }
+
+    /// How arrivals were answered in the life as it is now, which the caller then has seen.
+    pub fn counts_behind<R: Wait>(&self, rt: &R, seen: &mut Front<N>) -> Counts
+        ensures later { IsPrefix seen.old seen.new }
+        ensures counts { InTheLife C.rules N.given seen.new (λ g E. result ≡ counts_after E) }
+    {
+        self.core.log.look(rt, seen);
+        self.core.state.counts()
     }
 }

@@ -1,4 +1,5 @@
 -- What a run tells of what was put.
+use Rattle.std.specs.Prelude.{IfNone, None, OnErr}
 use Rattle.std.proofs.Common.{arith, rules, ◌≡◌, ◌≤◌, ◌+◌, ℕ, length, Option, Some, Result, Ok, Err, IfOk, OnOk, Bool, true, false, if◌then◌else◌, List, [], ◌∷◌, ◌++◌, map, refl, sym, ap, ◌∙◌, subst, append-nil, vec_len}
 use Rattle.pdc_aligner.specs.Device.{HasDevice, Standing}
 use Rattle.pdc_aligner.specs.Laid.{IsLaidBut}
@@ -27,6 +28,7 @@ use Rattle.pdc_threads.specs.Conducted.{HasConducted}
 use Rattle.pdc_threads.specs.Ended.{Ending, fault_in, first_fault, first_of}
 use Rattle.pdc_threads.specs.OneRun.{found_by}
 use Rattle.pdc_threads.specs.Run.{ArePublished, GivesFrom, HasEach}
+use Rattle.pdc_threads.specs.Wanted.{LackedRoom}
 
 -- an Ok run handed all of it on
 pub all_handed_on : {Took : List (List ℕ) → Type 0} (outcome : Result Totals HubFault) (put : List Message) (ended : Ended) (sent : HasHandedOn Took put ended) → OnOk outcome (ended ≡ AtEndMark) → OnOk outcome (sent.rest ≡ [])
@@ -130,12 +132,13 @@ nothing_sent took = record { given = []; rest = []; took = took; first = refl; w
 -- Where nothing was aligned for want of memory, it ran so, with no step and no receiver that is told of.
 pub none_conducted : {S I : Type 0} (answers : Rules) (Says : Sayings) (named : Option Given) (told : S → List Heard → Type 0) (sources : List S) (pace : Pace) (gave : I → List ℕ → Type 0) (ticker : I)
     {Took : List (List ℕ) → Type 0} (output : Output) (lead last popped : ℕ) (stored : Stored) (standing : Standing) (failures more : ℕ) (put : List Message) (ended : Bool) (sent : Ended)
-    → put ≡ end_mark ended → HasHandedOn Took put sent → HasSinkCause sent failures more → last ≤ stored.floor
+    → put ≡ end_mark ended → HasHandedOn Took put sent → HasSinkCause sent failures more → last ≤ stored.floor → LackedRoom
     → HasConducted answers Says named told sources pace (GivesFrom gave ticker) Took (record { output = output; lead = lead; last = last; popped = popped; found = found_by stored standing failures })
     (record { output = output; lead = lead; last = last; popped = popped; found = found_by stored standing more }) (Err NoMemory)
-none_conducted answers Says named told sources pace gave ticker output lead last popped stored standing failures more put ended sent e t cause low =
+none_conducted answers Says named told sources pace gave ticker output lead last popped stored standing failures more put ended sent e t cause low lacked =
     let none : instants_of put ≡ [] = ap instants_of e ∙ none_put ended in record {
       totals = tt;
+      lacked = λ e. lacked;
       each = tt;
       kept = (refl, refl);
       sink = search rules;
@@ -177,3 +180,13 @@ none_conducted answers Says named told sources pace gave ticker output lead last
         told_fault = refl;
       } ∣₁;
     }
+
+-- what holds of a none holds where it is no some
+pub none_of : {A : Type 0} (P : Type 0) (r : Option A) → ((x : A) → r ≡ Some x → ⊥) → IfNone r P → P
+none_of P None n h = h
+none_of P (Some x) n h = absurd (n x refl)
+
+-- what holds on an error holds where it is no success
+pub err_of : {A E : Type 0} (P : Type 0) (r : Result A E) → ((x : A) → r ≡ Ok x → ⊥) → OnErr r P → P
+err_of P (Ok x) n h = absurd (n x refl)
+err_of P (Err e) n h = h

@@ -17,17 +17,17 @@ use Rattle.pdc_pipe.specs.Writing.{IsOpen, put_by}
 use Rattle.pdc_publisher.specs.Publisher.{last_in, output_in}
 use Rattle.pdc_threads.specs.Ran.{PublishesAs, stored_in}
 use Rattle.pdc_threads.specs.Run.{GivesFrom}
-use Rattle.pdc_threads.specs.Shares.{HasTop, HasTurns}
+use Rattle.pdc_hub.specs.Pops.{HasAllTop, HasAllTurns}
 
 -- It may begin over the hub of this intake: it has the whole shares by which it pops and ticks; the greatest instant popped is the last one
 -- published, which the stored floor covers; the core was opened with what the mark stores, at the publisher's rate; and no step was taken, and
 -- nothing put.
 pub record MayAlign {C N S M I : Type 0} {core : _} {reads : _} {naming : _} {ledgers : _} {logged : _} {m : _}
     (intake : Intake C N S core reads naming ledgers logged) (aligner : Aligner N M I m) : Type 0 where
-  pub top : HasTop ledgers.top aligner.pops
+  pub top : HasAllTop aligner.pops ledgers.top
   pub last : aligner.pops.top.amount ≡ last_in aligner.publisher
   pub floor : last_in aligner.publisher ≤ (stored_in aligner.publisher).floor
-  pub turns : HasTurns ledgers.turns aligner.pops
+  pub turns : HasAllTurns aligner.pops ledgers.turns
   pub given : (g : Given) × (naming.given ≡ Some g)
   pub begun : aligner.pops.front ≡ []
   pub rate : IsAtRate naming.given (output_in aligner.publisher).rate
@@ -53,5 +53,5 @@ pub record HasAligned {C N S M I : Type 0} {core : _} {reads : _} {naming : _} {
   pub kept : PublishesAs before.publisher after.publisher
   pub all : HasPutAll (popped_by before.pops) (popped_by after.pops) [] (put_by after.writer) result
   pub complete : OnOk result (started ≡ true)
-  pub causes : IfErr result IsOfAligner
+  pub causes : started ≡ true → IfErr result IsOfAligner
   pub device : HasDevice (standing_of before.publisher) (standing_of after.publisher) result

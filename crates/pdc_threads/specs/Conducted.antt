@@ -1,9 +1,10 @@
 -- All that a run promises, over its inputs.
-use Rattle.std.specs.Prelude.{◌≡◌, ℕ, [], List, false, length, map, Option, Result, Some, true}
+use Rattle.std.specs.Prelude.{◌≡◌, ℕ, [], IsErrOf, List, false, length, map, Option, Result, Some, true}
 use Rattle.pdc_aligner.specs.declared.pace.Pace.{Pace}
 use Rattle.pdc_hub.specs.Pops.{popped_by}
 use Rattle.pdc_hub.specs.Replay.{Sayings}
 use Rattle.pdc_hub.specs.declared.fault.HubFault.{HubFault}
+use Rattle.pdc_hub.specs.declared.fault.HubFault.TheVariants.{NoMemory}
 use Rattle.pdc_hub.specs.declared.intake.Intake.{Intake}
 use Rattle.pdc_pipe.specs.HandedOn.{HasHandedOn, HasSinkCause}
 use Rattle.pdc_pipe.specs.Pipe.{log}
@@ -21,6 +22,7 @@ use Rattle.pdc_publisher.specs.declared.publisher.Publisher.{Publisher}
 use Rattle.pdc_threads.specs.OneRun.{Found, IsOneRun}
 use Rattle.pdc_threads.specs.Ran.{found_in}
 use Rattle.pdc_threads.specs.Run.{ArePublished, GivesFrom, HasEach, HasRun, IsCausedByMark, IsCausedBySink, IsSummed}
+use Rattle.pdc_threads.specs.Wanted.{LackedRoom}
 use Rattle.pdc_threads.specs.declared.crew.Finished.{Finished}
 use Rattle.pdc_threads.specs.declared.crew.Manned.{Manned}
 use Rattle.pdc_threads.specs.declared.totals.Totals.{Totals}
@@ -41,6 +43,7 @@ publishing_of publisher popped failures =
 -- Totals and entries, causes, what was put and sent, and what the run did as one life: each as `run` says it.
 pub record HasConducted {S : Type 0} (rules : Rules) (Says : Sayings) (named : Option Given) (told : S → List Heard → Type 0) (sources : List S) (pace : Pace) (Gave : List ℕ → Type 0) (Took : List (List ℕ) → Type 0) (before after : Publishing) (outcome : Result Totals HubFault) : Type 0 where
   pub totals : IsSummed outcome
+  pub lacked : IsErrOf outcome NoMemory → LackedRoom
   pub each : HasEach outcome (length sources)
   pub kept : (after.output ≡ before.output) × (after.lead ≡ before.lead)
   pub sink : IsCausedBySink outcome before.found.failures after.found.failures

@@ -11,7 +11,9 @@ use Rattle.pdc_pipe.specs.declared.message.Message.{Message}
 use Rattle.pdc_pipe.specs.declared.pipe.Log.{Log}
 use Rattle.pdc_publisher.specs.Publisher.{last_in, output_in}
 use Rattle.pdc_threads.specs.Ran.{stored_in}
-use Rattle.pdc_threads.specs.Shares.{AreParts, AreWhole, CountNothing, HasTop, HasTurns}
+use Rattle.pdc_hub.specs.Counted.{AreAllParts, HaveCountedNone}
+use Rattle.pdc_hub.specs.Pops.{HasAllTop, HasAllTurns}
+use Rattle.pdc_threads.specs.Shares.{AreParts}
 use Rattle.pdc_threads.specs.declared.crew.Manned.{Manned}
 use Rattle.pdc_life.specs.pdc_row.declared.limits.TheConstants.{MAX_PMUS}
 
@@ -24,11 +26,11 @@ pub record IsReady {C N S W P M I K : Type 0} {core : _} {reads : _} {naming : _
   pub streams : vec_len manned.inputs ≡ reads.streams intake.settings.now
   pub few : vec_len manned.inputs ≤ MAX_PMUS
   pub parts : AreParts (vec_len manned.inputs + 1) manned.shares
-  pub whole : AreWhole ledgers.taken ledgers.refused ledgers.configured manned.shares
-  pub amounts : CountNothing manned.shares
-  pub top : HasTop ledgers.top manned.aligner.pops
+  pub whole : AreAllParts manned.shares ledgers.taken ledgers.refused ledgers.configured
+  pub amounts : HaveCountedNone manned.shares
+  pub top : HasAllTop manned.aligner.pops ledgers.top
   pub last : manned.aligner.pops.top.amount ≡ last_in manned.aligner.publisher
-  pub turns : HasTurns ledgers.turns manned.aligner.pops
+  pub turns : HasAllTurns manned.aligner.pops ledgers.turns
   pub begun : manned.aligner.pops.front ≡ []
   pub given : (g : Given) × (naming.given ≡ Some g)
   pub floor : last_in manned.aligner.publisher ≤ (stored_in manned.aligner.publisher).floor

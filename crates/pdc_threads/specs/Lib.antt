@@ -12,3 +12,4 @@ pub mod Rate
 pub mod Run
 pub mod Served
 pub mod Shares
+pub mod Wanted

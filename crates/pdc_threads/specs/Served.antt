@@ -7,14 +7,15 @@ use Rattle.pdc_life.specs.Answer.{Rules}
 use Rattle.pdc_life.specs.Given.{Given}
 use Rattle.pdc_ports.specs.Heard.{Heard}
 use Rattle.pdc_threads.specs.Ended.{Ending, HasEndedAs, HaveJoined, ending_by}
-use Rattle.pdc_threads.specs.Shares.{AreParts, CountNothing}
+use Rattle.pdc_hub.specs.Counted.{HaveCountedNone}
+use Rattle.pdc_threads.specs.Shares.{AreParts}
 use Rattle.pdc_threads.specs.declared.delivered.Delivered.{Delivered}
 use Rattle.pdc_threads.specs.declared.receivers.Joined.{Joined}
 
 -- The settings of the intake are those that are named, and it has the stream of this place, whose share is one part that has counted nothing.
 abbrev pub IsPlaceAt : {C N S : Type 0} {core : _} {reads : _} {naming : _} {ledgers : _} {logged : _} → Intake C N S core reads naming ledgers logged → Inlet N → Type 0
 IsPlaceAt {reads = reads} {naming = naming} intake place =
-    (naming.settings ≡ Some intake.settings.now) × (place.stream < reads.streams intake.settings.now) × AreParts 1 place.shares × CountNothing place.shares
+    (naming.settings ≡ Some intake.settings.now) × (place.stream < reads.streams intake.settings.now) × AreParts 1 place.shares × HaveCountedNone place.shares
 
 -- All that this source told was received for this stream, and so its thread ended: with what it hands back.
 abbrev pub HasServed : {N S : Type 0} (rules : Rules) (named : Option Given) (told : S → List Heard → Type 0) → S → (stream : ℕ) → Delivered N → Type 0

@@ -8,6 +8,7 @@
 //! is the law [`runs_keep_headline`].
 #![tactic(auto)]
 
+mod asking;
 mod crew;
 mod delivered;
 mod laws;

@@ -1,21 +1,23 @@
 //! The receivers: each in a thread of its own, started and joined.
-ghost use Rattle.std.specs.Prelude.{◌≡◌, ◌≤◌, ◌+◌, IfSome, Some, map, true, vec_len};
+ghost use Rattle.std.specs.Prelude.{◌≡◌, ◌≤◌, ◌+◌, IfNone, IfSome, Some, false, map, true, vec_len};
 ghost use mathlib.Core.List.{IsPrefix};
-ghost use Rattle.pdc_hub.specs.Counted.{HasSameAmounts};
+ghost use Rattle.pdc_hub.specs.Counted.{AreAllParts, HasSameAmounts, HaveCountedNone};
 ghost use Rattle.pdc_hub.specs.Faults.{IsOfReceiver};
 ghost use Rattle.pdc_threads.specs.Ended.{AreFor, HasEndedAs, or_else};
 ghost use Rattle.pdc_threads.specs.Served.{AllJoined, HasServed, IsPlaceAt};
 ghost use Rattle.pdc_threads.specs.Run.{AreSumsOf};
-ghost use Rattle.pdc_threads.specs.Shares.{AreMoreThan, AreParts, AreWhole, AreWholeBut};
-ghost use Rattle.pdc_threads.specs.Shares.{CountNothing, HasAmountsOf, HasPartsOf, LeaveOne};
+ghost use Rattle.pdc_threads.specs.Shares.{AreMoreThan, AreParts, AreWholeBut, HasAmountsOf, HasPartsOf, LeaveOne};
+ghost use Rattle.pdc_hub.specs.pdc_memory.Asking.{SomeWasRefused};
+ghost use Rattle.pdc_threads.specs.Wanted.{LackedRoom};
 
+use crate::asking::{append, buffer, note_denied};
 use crate::delivered::Delivered;
 use pdc_core::Core;
 use pdc_frame::MAX_SIZE;
 use pdc_hub::{HubFault, Inlet, Intake, Ledgers, Naming, Received, Shares, receive};
 use pdc_life::MAX_PMUS;
 use pdc_ports::Source;
-use std::alloc::{AllocError, Global};
+use std::alloc::Global;
 use std::marker::PhantomData;
 use std::snapshot::Snapshot;
 use std::sync::Wait;
@@ -35,22 +37,18 @@ pub struct Counted {
     pub refused: u64,
 }
 
-/// A buffer for a datagram.
-fn buffer(alloc: Global) -> Result<Vec<u8>, AllocError> {
-    Ok(vec![in alloc; 0u8; MAX_SIZE]?)
-}
-
-/// The sources, each with a buffer.
+/// The sources, each with a buffer; none where a request for that was refused.
 pub fn buffered<S: Source + Drop>(alloc: Global, sources: Vec<S>) -> Option<Vec<Input<S>>>
     ensures len { IfSome result (λ inputs. vec_len inputs ≡ vec_len sources) }
     ensures same { IfSome result (λ inputs. map (λ i. i.source) inputs.items ≡ sources.items) }
+    ensures refused { IfNone result SomeWasRefused }
 {
     let mut inputs = Vec::new(alloc);
     for source in sources {
-        let Ok(buffer) = buffer(alloc) else {
+        let Ok(buffer) = buffer(alloc, MAX_SIZE) else {
             return None;
         };
-        if inputs.push(Input { source, buffer }).is_err() {
+        if append(&mut inputs, Input { source, buffer }).is_err() {
             return None;
         }
     }
@@ -104,9 +102,10 @@ where
     requires streams { vec_len inputs ≡ C.Settings.streams intake.now.settings.now }
     requires few { vec_len inputs ≤ MAX_PMUS }
     requires parts { AreParts (vec_len inputs + 1) shares.old }
-    requires amounts { CountNothing shares.old }
+    requires amounts { HaveCountedNone shares.old }
     ensures complete { result.complete ≡ true →
-        CountNothing shares.new × AreParts 1 shares.new × (vec_len result.running ≡ vec_len inputs) }
+        HaveCountedNone shares.new × AreParts 1 shares.new × (vec_len result.running ≡ vec_len inputs) }
+    ensures lacked { result.complete ≡ false → LackedRoom }
     ensures placed { AreFor (λ source stream handle.
         (handle.promise.source.value ≡ source) × (handle.promise.stream ≡ stream)) 0
         (map (λ i. i.source) inputs.items) result.running.items }
@@ -129,17 +128,21 @@ where
             stream,
             of: PhantomData,
         };
-        let Ok(handle) = scope.spawn_with(
+        let handle = match scope.spawn_with(
             promise,
             move || -> Delivered<N>
                 requires { IsPlaceAt intake.now place }
                 ensures { HasServed C.rules N.given S.told source place.stream result }
             { receive_owned(rt, alloc, intake, source, place) },
-        ) else {
-            complete = false;
-            continue;
+        ) {
+            Ok(handle) => handle,
+            Err(refused) => {
+                note_denied(&refused);
+                complete = false;
+                continue;
+            }
         };
-        if running.push(handle).is_err() {
+        if append(&mut running, handle).is_err() {
             complete = false;
             continue;
         }
@@ -154,7 +157,7 @@ fn split_one<N: Ledgers>(left: &mut Shares<N>) -> Shares<N>
     ensures left { LeaveOne left.old left.new }
     ensures amounts { HasSameAmounts left.old left.new }
     ensures one { AreParts 1 result }
-    ensures nothing { CountNothing result }
+    ensures nothing { HaveCountedNone result }
 {
     Shares {
         taken: left.taken.split_off(1, 0),
@@ -221,8 +224,10 @@ pub fn join_all<C: Core, N: Naming<C::Settings>, S: Source, R: Threads>(
 ) -> Joined
     requires parts { started.complete ≡ true →
         AreWholeBut (vec_len started.running) N.taken N.refused N.configured shares.old }
-    requires amounts { started.complete ≡ true → CountNothing shares.old }
-    ensures parts { result.complete ≡ true → AreWhole N.taken N.refused N.configured shares.new }
+    requires amounts { started.complete ≡ true → HaveCountedNone shares.old }
+    requires lacked { started.complete ≡ false → LackedRoom }
+    ensures lacked { result.complete ≡ false → LackedRoom }
+    ensures parts { result.complete ≡ true → AreAllParts shares.new N.taken N.refused N.configured }
     ensures started { result.complete ≡ true → started.complete ≡ true }
     ensures each { result.complete ≡ true → vec_len result.receivers ≡ vec_len started.running }
     ensures fault { IfSome result.fault IsOfReceiver }
@@ -247,7 +252,7 @@ pub fn join_all<C: Core, N: Naming<C::Settings>, S: Source, R: Threads>(
         } = handle.join(rt);
         merge(shares, more);
         fault = first_of(fault, cause);
-        if receivers.push(Counted { taken, refused }).is_err() {
+        if append(&mut receivers, Counted { taken, refused }).is_err() {
             complete = false;
         }
     }

@@ -1,10 +1,11 @@
 //! A run of all receivers beside the aligner and the sender.
-ghost use Rattle.std.specs.Prelude.{◌≡◌, ◌≤◌, ◌+◌, Some, [], vec_len};
+ghost use Rattle.std.specs.Prelude.{◌≡◌, ◌≤◌, ◌+◌, IsErrOf, Some, [], vec_len};
 ghost use Rattle.crossbeam_channel.specs.Claims.{IsSeatAt};
 ghost use Rattle.crossbeam_channel.specs.Ends.{receives_on, sends_on};
 ghost use Rattle.pdc_aligner.specs.Opened.{IsOpenedWith};
 ghost use Rattle.pdc_aligner.specs.Rate.{IsAtRate};
-ghost use Rattle.pdc_hub.specs.Pops.{popped_by};
+ghost use Rattle.pdc_hub.specs.Counted.{AreAllParts, HaveCountedNone};
+ghost use Rattle.pdc_hub.specs.Pops.{HasAllTop, HasAllTurns, popped_by};
 ghost use Rattle.pdc_life.specs.Given.{Given};
 ghost use Rattle.pdc_publisher.specs.Publisher.{last_in, output_in};
 ghost use Rattle.pdc_threads.specs.Aligning.{HasAligned, MayAlign};
@@ -12,9 +13,11 @@ ghost use Rattle.pdc_threads.specs.Conducted.{HasRunAs, HasSentOut};
 ghost use Rattle.pdc_threads.specs.Counted.{HasCountedAll};
 ghost use Rattle.pdc_threads.specs.Crew.{IsReady, IsUnread};
 ghost use Rattle.pdc_threads.specs.Ran.{EndedByMark, EndedBySink, HasSent, PublishesAs, RanOneLife, stored_in};
-ghost use Rattle.pdc_threads.specs.Shares.{AreParts, AreWhole, CountNothing, HasTop, HasTurns};
+ghost use Rattle.pdc_threads.specs.Shares.{AreParts};
 ghost use Rattle.pdc_threads.specs.Run.{ArePublished, HasEach, IsSummed};
+ghost use Rattle.pdc_threads.specs.Wanted.{LackedRoom};
 
+use crate::asking::{note_denied, ring};
 use crate::crew::{Crew, Finished, Manned, Ran, not_begun};
 use crate::outside::Outside;
 use crate::receivers::{buffered, join_all, start_all};
@@ -24,7 +27,7 @@ use pdc_core::Core;
 use pdc_hub::{Hub, HubFault, Intake, Naming};
 use pdc_life::MAX_PMUS;
 use pdc_mark::Mark;
-use pdc_pipe::{Ends, HandsOn, Receiver, Sent, channel, close, send_owned, settle};
+use pdc_pipe::{Ends, HandsOn, Receiver, Sent, close, send_owned, settle};
 use pdc_ports::Ticker;
 use std::alloc::Global;
 use std::snapshot::Snapshot;
@@ -81,6 +84,7 @@ where
     ) {
         Ok(child) => child,
         Err(refused) => {
+            note_denied(&refused);
             hub.close(rt, &mut aligner.pops);
             let _closed = close(rt, &mut aligner.writer);
             let sent = (refused.value)();
@@ -204,15 +208,15 @@ where
     requires streams { vec_len crew.sources ≡ C.Settings.streams settings.now }
     requires few { vec_len crew.sources ≤ MAX_PMUS }
     requires parts { AreParts (vec_len crew.sources + 1) crew.shares }
-    requires whole { AreWhole N.taken N.refused N.configured crew.shares }
-    requires amounts { CountNothing crew.shares }
-    requires top { HasTop N.top crew.pops }
+    requires whole { AreAllParts crew.shares N.taken N.refused N.configured }
+    requires amounts { HaveCountedNone crew.shares }
+    requires top { HasAllTop crew.pops N.top }
     requires last { crew.pops.top.amount ≡ last_in crew.publisher }
     requires floor { last_in crew.publisher ≤ (stored_in crew.publisher).floor }
     requires rate { IsAtRate N.given (output_in crew.publisher).rate }
     requires opened { IsOpenedWith N.given (stored_in crew.publisher) }
     requires given { (g : Given) × (N.given ≡ Some g) }
-    requires turns { HasTurns N.turns crew.pops }
+    requires turns { HasAllTurns crew.pops N.turns }
     requires begun { crew.pops.front ≡ [] }
     // The totals are the sums over the receivers, and the amounts of the shares, which are whole again: so they are the core's counters.
     ensures totals { IsSummed result.ran.outcome }
@@ -224,6 +228,8 @@ where
         W.Source.told W.Ticker.gave W.Sink.took W.Sink.failures_of crew result.ran }
     // Where it is Ok, the rows that were popped are as many as were published.
     ensures popped { ArePublished result.ran.outcome (popped_by crew.pops) (popped_by result.pops) }
+    // Want of memory ends it only where a request was refused, or a thread or the channel was not given.
+    ensures lacked { IsErrOf result.ran.outcome HubFault.NoMemory → LackedRoom }
     // Only a sink that failed ends it by the sink's fault, and only the mark's device by the device's.
     ensures sink { EndedBySink W.Sink.failures_of crew.sink result.ran }
     ensures mark { EndedByMark crew.publisher result.ran }
@@ -245,7 +251,7 @@ where
     let Some(inputs) = buffered(alloc, sources) else {
         return not_begun(publisher, sink, shares, pops);
     };
-    let Ok(ends) = channel(alloc) else {
+    let Ok(ends) = ring(alloc) else {
         return not_begun(publisher, sink, shares, pops);
     };
     let Ends {

@@ -1,15 +1,15 @@
 //! What a run counted, and which fault it tells of.
-ghost use Rattle.std.specs.Prelude.{◌≡◌, IfErr, IfOk, IfSome, IsErrOf, Ok, OnOk, true, vec_len};
+ghost use Rattle.std.specs.Prelude.{◌≡◌, IfErr, IfOk, IfSome, IsErrOf, Ok, OnOk, false, true, vec_len};
 ghost use Rattle.pdc_aligner.specs.Device.{IsOfAligner};
 ghost use mathlib.Core.List.{IsPrefix};
-ghost use Rattle.pdc_hub.specs.Counted.{HasSameAmounts, HasSameParts};
+ghost use Rattle.pdc_hub.specs.Counted.{AreAllParts, HasSameAmounts, HasSameParts, sum_of};
 ghost use Rattle.pdc_hub.specs.Faults.{IsOfReceiver};
-ghost use Rattle.pdc_hub.specs.Pops.{HasPoppedNone};
+ghost use Rattle.pdc_hub.specs.Pops.{HasAllTurns, HasPoppedNone};
 ghost use Rattle.pdc_hub.specs.Replay.{AreSaid, WasRead};
 ghost use Rattle.pdc_log.specs.Log.{HasLooked, came_in};
 ghost use Rattle.pdc_threads.specs.Ended.{fault_in, first_fault};
 ghost use Rattle.pdc_threads.specs.Run.{AreSumsOf, IsSummed};
-ghost use Rattle.pdc_threads.specs.Shares.{AreWhole, HasTurns, all_counted};
+ghost use Rattle.pdc_threads.specs.Wanted.{LackedRoom};
 
 use crate::receivers::{Counted, Joined};
 use pdc_core::Core;
@@ -35,11 +35,11 @@ pub fn count_all<C: Core + Drop, N: Naming<C::Settings>, M, R: Wait>(
     shares: &mut Shares<N>,
     pops: &mut Pops<N, M>,
 ) -> Counted
-    requires turns { HasTurns N.turns pops.old }
-    requires parts { complete ≡ true → AreWhole N.taken N.refused N.configured shares.old }
+    requires turns { HasAllTurns pops.old N.turns }
+    requires parts { complete ≡ true → AreAllParts shares.old N.taken N.refused N.configured }
     ensures counted { complete ≡ true →
         (result.taken ≡ shares.old.taken.amount) × (result.refused ≡ shares.old.refused.amount) }
-    ensures came { complete ≡ true → came_in pops.new.front ≡ all_counted shares.old }
+    ensures came { complete ≡ true → came_in pops.new.front ≡ sum_of shares.old }
     ensures kept { HasSameAmounts shares.old shares.new × HasSameParts shares.old shares.new }
     ensures same { HasPoppedNone pops.old pops.new }
     ensures looked { HasLooked pops.old.front pops.new.front }
@@ -70,7 +70,9 @@ pub fn outcome(
     requires sums { joined.complete ≡ true →
         AreSumsOf counted.taken counted.refused joined.receivers.items }
     requires receiver { IfSome joined.fault IsOfReceiver }
-    requires aligner { IfErr aligned IsOfAligner }
+    requires aligner { joined.complete ≡ true → IfErr aligned IsOfAligner }
+    requires lacked { joined.complete ≡ false → LackedRoom }
+    ensures lacked { IsErrOf result HubFault.NoMemory → LackedRoom }
     ensures totals { IsSummed result }
     ensures counted { IfOk result (λ totals.
         (counted.taken ≡ totals.taken) × (counted.refused ≡ totals.refused)) }

@@ -7,7 +7,7 @@ pub loop-source-preserved : goal.loop-source-preserved
 loop-source-preserved g c =
     let steps = c.in-Some.ensures.steps in (
       search rules,
-      map_on (λ i. i.source) c.loop-source.inputs.items c.push.new.self.items record { source = c.in-Some.source; buffer = c.in-Ok.buffer } (into_iter_items c.loop-source.source-iterator) (into_iter_items c.next.new.self) c.args.sources.items
+      map_on (λ i. i.source) c.loop-source.inputs.items c.append.new.items.items record { source = c.in-Some.source; buffer = c.in-Ok.buffer } (into_iter_items c.loop-source.source-iterator) (into_iter_items c.next.new.self) c.args.sources.items
           (search rules) steps.0 c.loop-source.invariant.1,
       omega (arith, ap length steps.0, steps.1, c.loop-source.invariant.2),
     )

@@ -1,11 +1,13 @@
-use Rattle.std.proofs.Common.{◌≡◌, ◌+◌, true, drop, length, map}
+use Rattle.std.proofs.Common.{◌≡◌, ◌+◌, false, true, drop, length, map}
 use Rattle.std.specs.Vec.Iter.{into_iter_items, into_iter_len}
 use Rattle.pdc_threads.specs.Ended.{AreFor}
+use Rattle.pdc_threads.specs.Wanted.{LackedRoom}
 use Rattle.pdc_threads.proofs.receivers.start_all.Given as goal
 
 abbrev pub invariant-loop-input : goal.invariant-loop-input
 invariant-loop-input g l =
-    (l.complete ≡ true
+    (l.complete ≡ false → LackedRoom)
+    × (l.complete ≡ true
     → (l.shares.taken.amount ≡ 0) × (l.shares.refused.amount ≡ 0) × (l.shares.configured.amount ≡ 0)
     × (l.shares.taken.parts ≡ into_iter_len l.input-iterator + 1) × (l.shares.refused.parts ≡ into_iter_len l.input-iterator + 1) × (l.shares.configured.parts ≡ into_iter_len l.input-iterator + 1)
     × (length l.running.items + into_iter_len l.input-iterator ≡ length l.fn.inputs.items)

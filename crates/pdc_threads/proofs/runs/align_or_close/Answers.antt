@@ -35,7 +35,7 @@ returns-then-not-complete g c =
       kept = (refl, refl);
       all = rw c.close.ensures.kept (none_popped (popped_by old.pops) NoMemory ended put marked);
       complete = tt;
-      causes = tt;
+      causes = search rules;
       device = unharmed (standing_of old.publisher);
     }
 
@@ -58,6 +58,6 @@ returns g c =
       kept = (aligned.output, aligned.lead);
       all = aligned.all;
       complete = anyway c.align.result.outcome goes;
-      causes = aligned.causes;
+      causes = λ e. aligned.causes;
       device = aligned.device;
     }

@@ -1,4 +1,4 @@
-use Rattle.std.proofs.Common.{rules, ◌≡◌, [], length, map, subst, true, ◌∙◌, ap, sym, vec_len}
+use Rattle.std.proofs.Common.{inr, rules, ◌≡◌, [], length, map, subst, true, ◌∙◌, ap, sym, vec_len}
 use lib.ListN.{length-map}
 use Rattle.pdc_pipe.specs.Writing.{put_by}
 use Rattle.pdc_aligner.specs.Device.{standing_of}
@@ -50,6 +50,7 @@ returns-clause-conducted g c =
     let receivers = c.outcome-outcome.ensures.receivers in
     let entries = all_entries outcome c.join_all-joined.result.receivers.items (vec_len c.join_all-joined.result.receivers) joined.ended.endings complete receivers c.outcome-outcome.ensures.entries joined.ended.entries in record {
       totals = c.outcome-outcome.ensures.totals;
+      lacked = c.outcome-outcome.ensures.lacked;
       each = subst (λ n. HasEach outcome n) few (all_each outcome (vec_len c.join_all-joined.result.receivers) (vec_len c.args.manned.inputs) complete receivers
           (λ h. joined.each h ∙ (c.start_all-started.ensures.complete (joined.started h)).2));
       kept = aligned.kept;
@@ -92,4 +93,4 @@ returns-in-Err-clause-conducted g c =
     rw (c.not_begun.ensures.0, c.not_begun.ensures.1, c.not_begun.ensures.2, c.not_begun.ensures.3, c.close.ensures.kept)
     (none_conducted g.C.Core.rules (g.C.Settings.Reads.says c.args.intake.now.settings.now) g.N.Naming.given g.W.Source.Source.told (map (λ i. i.source) c.args.manned.inputs.items) c.args.manned.pace g.W.Ticker.Ticker.gave c.args.manned.aligner.ticker
     (output_in p) (lead_in p) (last_in p) (popped_by c.args.manned.aligner.pops) (g.W.Mark.Mark.stored (mark_in p)) (standing_of p) (g.W.Sink.Sink.failures_of c.args.manned.sink) (g.W.Sink.Sink.failures_of c.settle-sink.result.0) put c.close-closed.result c.settle-sink.result.1
-    (ended_or_not (put_by c.args.manned.aligner.writer) put c.close-closed.result nothing c.close-closed.ensures.put c.close-closed.ensures.not) t cause c.requires.ready.floor)
+    (ended_or_not (put_by c.args.manned.aligner.writer) put c.close-closed.result nothing c.close-closed.ensures.put c.close-closed.ensures.not) t cause c.requires.ready.floor (inr c.note_denied.ensures))
