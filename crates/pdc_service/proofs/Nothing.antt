@@ -20,9 +20,9 @@ unharmed : (standing : Standing) → HasDevice {T = ℕ} standing standing (Err 
 unharmed standing = record { no_fewer = omega arith; caused = search rules; sound = tt }
 
 -- Where nothing was run for want of memory, it is a life with no step, and with no receiver that is told of.
-pub nothing_run : {S I : Type 0} (answers : Rules) (Says : Sayings) (g : Given) (output : Output) (rate every : ℕ) (told : S → List Heard → Type 0) (gave : I → List ℕ → Type 0) (ticker : I)
-    {Took : List (List ℕ) → Type 0} (found : Found) (sources : List S) → Took [] → IsOneRun answers Says g output rate every told sources (GivesFrom gave ticker) Took found found (Err NoMemory)
-nothing_run answers Says g output rate every told gave ticker found sources took = record {
+pub nothing_ran : {S : Type 0} (answers : Rules) (Says : Sayings) (g : Given) (output : Output) (rate every : ℕ) (told : S → List Heard → Type 0) (Gave : List ℕ → Type 0)
+    {Took : List (List ℕ) → Type 0} (found : Found) (sources : List S) → Gave [] → Took [] → IsOneRun answers Says g output rate every told sources Gave Took found found (Err NoMemory)
+nothing_ran answers Says g output rate every told Gave found sources gave took = record {
   steps = [];
   is_life = tt;
   complete = false;
@@ -30,7 +30,7 @@ nothing_run answers Says g output rate every told gave ticker found sources took
   received = tt;
   all_came = search rules;
   failed = [];
-  ticked = (ticker, λ before g. subst (λ (ns : List ℕ). gave ticker ns) (sym (append-nil before)) g);
+  ticked = gave;
   one_failed = omega arith;
   counts = λ column. omega arith;
   all_due = refl;
@@ -47,6 +47,12 @@ nothing_run answers Says g output rate every told gave ticker found sources took
   sink = search rules;
   told_fault = refl;
 }
+
+-- the same, of a ticker that gave nothing
+pub nothing_run : {S I : Type 0} (answers : Rules) (Says : Sayings) (g : Given) (output : Output) (rate every : ℕ) (told : S → List Heard → Type 0) (gave : I → List ℕ → Type 0) (ticker : I)
+    {Took : List (List ℕ) → Type 0} (found : Found) (sources : List S) → Took [] → IsOneRun answers Says g output rate every told sources (GivesFrom gave ticker) Took found found (Err NoMemory)
+nothing_run answers Says g output rate every told gave ticker found sources took =
+    nothing_ran answers Says g output rate every told (GivesFrom gave ticker) found sources (ticker, λ before g. subst (λ (ns : List ℕ). gave ticker ns) (sym (append-nil before)) g) took
 
 -- It ran so, of the same by other names.
 pub one_of : {S : Type 0} (answers : Rules) (stored known : Stored) (after : Found) {Says : Sayings} {g same : Given} {output spoken : Output} {rate paced every each : ℕ} {told : S → List Heard → Type 0} {Gave : List ℕ → Type 0} {Took : List (List ℕ) → Type 0}

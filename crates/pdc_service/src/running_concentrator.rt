@@ -1,9 +1,10 @@
 //! Runs of a node and of the merger.
-ghost use Rattle.std.specs.Prelude.{◌≡◌, ◌≤◌, ◌+◌, Err, Some, [], length, vec_len};
+ghost use Rattle.std.specs.Prelude.{◌≡◌, ◌≤◌, ◌+◌, Err, IsErrOf, Some, [], length, vec_len};
 ghost use Rattle.pdc_threads.specs.Ran.{EndedByMark, EndedBySink, PublishesAs, PublishesSo, stored_in};
 ghost use Rattle.pdc_threads.specs.Opened.{IsOpenedWith};
 ghost use Rattle.pdc_threads.specs.Rate.{IsAtRate};
 ghost use Rattle.pdc_threads.specs.Run.{HasEach, HasRun, IsSummed};
+ghost use Rattle.pdc_threads.specs.Wanted.{LackedRoom};
 ghost use Rattle.pdc_hub.specs.declared.fault.HubFault.TheVariants.{NoMemory};
 ghost use Rattle.pdc_life.specs.CoreKind.{OfMerger, OfNode};
 ghost use Rattle.pdc_publisher.specs.Publisher.{last_in, output_in};
@@ -86,6 +87,7 @@ where
     requires rate { IsAtRate N.given (output_in ready.publisher).rate }
     requires opened { IsOpenedWith N.given (stored_in ready.publisher) }
     ensures totals { IsSummed result.outcome }
+    ensures lacked { IsErrOf result.outcome NoMemory → LackedRoom }
     ensures kept { PublishesAs ready.publisher result.publisher }
     ensures sink { EndedBySink W.Sink.failures_of ready.sink result }
     ensures each { HasEach result.outcome (vec_len ready.sources) }
@@ -157,6 +159,7 @@ where
     requires streams { vec_len handed.sources ≡ C.Settings.streams life.now.settings.now }
     requires few { vec_len handed.sources ≤ MAX_PMUS }
     ensures totals { IsSummed result.outcome }
+    ensures lacked { IsErrOf result.outcome NoMemory → LackedRoom }
     ensures kept { PublishesSo life.now.output life.now.plan.now.lead result.publisher }
     ensures sink { EndedBySink W.Sink.failures_of handed.sink result }
     ensures each { HasEach result.outcome (vec_len handed.sources) }
@@ -217,6 +220,8 @@ pub fn run_node<W: Outside, R: Threads + Wait + Sync>(
     requires { vec_len handed.sources ≡ length settings.now.pmus.items }
     // The totals are the sums over the receivers.
     ensures totals { IsSummed result.outcome }
+    // Want of memory ends it only where a request was refused, or a thread or the channel was not given.
+    ensures lacked { IsErrOf result.outcome NoMemory → LackedRoom }
     // Only a sink that failed ends it by the sink's fault.
     ensures sink { EndedBySink W.Sink.failures_of handed.sink result }
     // What the sink took are the first of the frames put, whose instants strictly rise above the floor that was stored, and are at most the
@@ -255,6 +260,7 @@ pub fn run_merger<W: Outside, R: Threads + Wait + Sync>(
     // Node A and node B have a source each.
     requires { vec_len handed.sources ≡ 2 }
     ensures totals { IsSummed result.outcome }
+    ensures lacked { IsErrOf result.outcome NoMemory → LackedRoom }
     ensures sink { EndedBySink W.Sink.failures_of handed.sink result }
     ensures sent { HasSentOf W.Sink.took handed result }
     ensures each { HasEach result.outcome (vec_len handed.sources) }

@@ -5,6 +5,7 @@ ghost use Rattle.pdc_service.specs.Summed.{AreSums, HaveEach};
 ghost use Rattle.pdc_startup.specs.Begun.{begun_mark};
 ghost use Rattle.pdc_startup.specs.Concentrator.{IsMerger, IsNode, streams_of};
 ghost use Rattle.pdc_startup.specs.Steps.{steps_with};
+ghost use Rattle.pdc_startup.specs.Watching.{AreSilent};
 
 use crate::host::Host;
 use crate::run_texts::{begun_text, unknown_text};
@@ -13,9 +14,11 @@ use pdc_mark::Mark;
 use pdc_server::Seats;
 use pdc_settings::unknown_keys;
 use pdc_startup::{
-    Begun, Described, Files, Machine, Observed, OutputsSink, RunOptions, ServiceFault,
+    Begun, Described, Files, Link, Machine, Observed, OutputsSink, RunOptions, ServiceFault,
+    TcpDialer,
 };
 use pdc_threads::{HubFault, Source, Totals};
+use pdc_ticking::TickTime;
 
 /// A life whose mark has begun, and what is watched of it.
 #[derive(Drop)]
@@ -54,10 +57,11 @@ fn serve_linked<M: Machine, S: Source + Send + Drop, R: Host>(
     observed: &Observed,
     linked: Linked<S, M::Mark>,
 ) -> Result<Totals, ServiceFault>
-    requires { vec_len linked.sources ≡ streams_of described.now.concentrator }
+    requires links { vec_len linked.sources ≡ streams_of described.now.concentrator }
+    requires silent { AreSilent S.told linked.sources.items }
     ensures totals { IfOk result AreSums }
     ensures each { IfOk result (HaveEach (streams_of described.now.concentrator)) }
-    ensures opened { OpensAndRuns M.tried M.fresh M.Outputs.took machine.old machine.new
+    ensures opened { OpensAndRuns M.tried S.told M.fresh M.Outputs.took machine.old machine.new
         described.now (Some (M.Mark.stored (begun_mark linked.mark))) (steps_behind_links files.now) result }
 {
     let alloc = rt.alloc();
@@ -74,9 +78,15 @@ fn serve_linked<M: Machine, S: Source + Send + Drop, R: Host>(
         begun_text(alloc, concentrator, network, start, floor, linked.buffer),
     );
     tell_unknown(rt, observed, files.settings, described);
+    let (rate, tick_ms) = (
+        concentrator.output().rate,
+        concentrator.service_settings().tick_ms,
+    );
+    let time = TickTime::new(rt, rate, tick_ms, observed.wake.as_ref());
     let opened = Opened {
         mark: linked.mark,
         sources: linked.sources,
+        time,
         sink: OutputsSink::new(outputs, observed.outputs.as_slice()),
     };
     let consumers = Consumers {
@@ -95,8 +105,8 @@ fn serve_linked<M: Machine, S: Source + Send + Drop, R: Host>(
 }
 
 /// Tries the steps behind the mark, in their order, and runs the concentrator that the settings describe.
-fn serve_watched<M: Machine, R: Host>(
-    rt: &R,
+fn serve_watched<'a, M: Machine, R: Host>(
+    rt: &'a R,
     machine: &mut M,
     files: &Files<'_>,
     options: &RunOptions<'_>,
@@ -105,7 +115,8 @@ fn serve_watched<M: Machine, R: Host>(
 ) -> Result<Totals, ServiceFault>
     ensures totals { IfOk result AreSums }
     ensures each { IfOk result (HaveEach (streams_of described.now.concentrator)) }
-    ensures opened { OpensAndRuns M.tried M.fresh M.Outputs.took machine.old machine.new
+    ensures opened { OpensAndRuns M.tried ⟦<Link<'a, R, M::Socket, TcpDialer<'a, R>> as Source>⟧.told
+        M.fresh M.Outputs.took machine.old machine.new
         described.now (Some (M.Mark.stored (begun_mark watched.entry.mark))) (steps_behind_mark files.now) result }
 {
     let Watched { mark, observed } = watched;
@@ -121,8 +132,8 @@ fn serve_watched<M: Machine, R: Host>(
 
 /// Tries the steps behind the settings, in their order, and runs the concentrator that these describe. What is watched of the run is lent to
 /// what follows: it has so many parts that to own it over each step's exit is dear to prove.
-fn serve_described<M: Machine, R: Host>(
-    rt: &R,
+fn serve_described<'a, M: Machine, R: Host>(
+    rt: &'a R,
     machine: &mut M,
     files: &Files<'_>,
     options: &RunOptions<'_>,
@@ -130,7 +141,8 @@ fn serve_described<M: Machine, R: Host>(
 ) -> Result<Totals, ServiceFault>
     ensures totals { IfOk result AreSums }
     ensures each { IfOk result (HaveEach (streams_of described.now.concentrator)) }
-    ensures opened { OpensAndRuns M.tried M.fresh M.Outputs.took machine.old machine.new
+    ensures opened { OpensAndRuns M.tried ⟦<Link<'a, R, M::Socket, TcpDialer<'a, R>> as Source>⟧.told
+        M.fresh M.Outputs.took machine.old machine.new
         described.now None (steps_with files.now) result }
 {
     let (concentrator, network) = (&described.concentrator, &described.network);
@@ -154,8 +166,8 @@ fn serve_described<M: Machine, R: Host>(
 ///
 /// The first fault: of the settings file, the mark file, the start that is stored, the ports and places of the PMUs in their order, the
 /// port of the frames, the further destinations in their order, the port of the sessions, that of the counters, the first file of the record, or the run.
-pub fn serve_node<M: Machine, R: Host>(
-    rt: &R,
+pub fn serve_node<'a, M: Machine, R: Host>(
+    rt: &'a R,
     machine: &mut M,
     files: &Files<'_>,
     options: &RunOptions<'_>,
@@ -166,7 +178,8 @@ pub fn serve_node<M: Machine, R: Host>(
     // first; the last of them failed, and it ended by that fault, or all were opened, and it ended by the run's answer. Then, whatever the
     // machine's outputs are, what they took are some of the frames of one life, in their order, which is given what these settings and the
     // mark say that was begun; instants strictly rise above the floor that it stored.
-    ensures started { StartsAndRuns M.tried M.fresh M.Outputs.took machine.old machine.new
+    ensures started { StartsAndRuns M.tried ⟦<Link<'a, R, M::Socket, TcpDialer<'a, R>> as Source>⟧.told
+        M.fresh M.Outputs.took machine.old machine.new
         IsNode files.now result }
 {
     let described = machine.read_node(rt, files)?;
@@ -179,8 +192,8 @@ pub fn serve_node<M: Machine, R: Host>(
 ///
 /// The first fault: of the settings file, the mark file, the start that is stored, the ports or places of node A and node B, the
 /// port of the frames, the further destinations in their order, the port of the sessions, that of the counters, the first file of the record, or the run.
-pub fn serve_merger<M: Machine, R: Host>(
-    rt: &R,
+pub fn serve_merger<'a, M: Machine, R: Host>(
+    rt: &'a R,
     machine: &mut M,
     files: &Files<'_>,
     options: &RunOptions<'_>,
@@ -188,7 +201,8 @@ pub fn serve_merger<M: Machine, R: Host>(
     ensures totals { IfOk result AreSums }
     // Node A and node B have an entry each.
     ensures each { IfOk result (HaveEach 2) }
-    ensures started { StartsAndRuns M.tried M.fresh M.Outputs.took machine.old machine.new
+    ensures started { StartsAndRuns M.tried ⟦<Link<'a, R, M::Socket, TcpDialer<'a, R>> as Source>⟧.told
+        M.fresh M.Outputs.took machine.old machine.new
         IsMerger files.now result }
 {
     let described = machine.read_merger(rt, files)?;

@@ -1,8 +1,10 @@
 //! A run with consumers beside it.
 ghost use Rattle.std.specs.Prelude.{◌≡◌, vec_len};
-ghost use Rattle.pdc_service.specs.Serving.{IsRunOf, RanServing, answer_to};
+ghost use Rattle.pdc_service.specs.Handed.{TicksBy, answer_to};
+ghost use Rattle.pdc_service.specs.Serving.{IsRunOf, RanServing};
 ghost use Rattle.pdc_startup.specs.declared.concentrator.Concentrator.{Concentrator};
-ghost use Rattle.pdc_startup.specs.Concentrator.{streams_of};
+ghost use Rattle.pdc_startup.specs.Concentrator.{output_of, streams_of};
+ghost use Rattle.pdc_threads.specs.Run.{GivesFrom};
 
 use crate::either::run_concentrator;
 use crate::porter::JournalPorter;
@@ -15,8 +17,8 @@ use pdc_server::{Naming, Recent, Reception, RememberingSink, Seats, serve};
 use pdc_startup::{
     Begun, Concentrator, ControlledTicker, Observed, RunOptions, ServiceFault, observe_all, plan_of,
 };
-use pdc_threads::{HubFault, Sink, Source, Totals};
-use pdc_ticking::{ClockTicker, TickTime, WatchedTicker};
+use pdc_threads::{HubFault, Sink, Source, Ticker, Totals};
+use pdc_ticking::{ClockTicker, Rated, Timepiece, WatchedTicker};
 use std::alloc::Global;
 use std::marker::Brand;
 use std::net::TcpListener;
@@ -27,11 +29,12 @@ use std::sync::atomic::{AtomicU64, Ordering};
 use std::thread;
 use std::thread::{Scope, Threads};
 
-/// What is open for a run: its mark, a source for each stream, and where frames go.
+/// What is open for a run: its mark, a source for each stream, by what it waits for its ticks or who gives them, and where frames go.
 #[derive(Drop)]
-pub struct Opened<S: Source + Drop, M: Mark + Drop, K: Sink + Drop> {
+pub struct Opened<S: Source + Drop, T: Drop, M: Mark + Drop, K: Sink + Drop> {
     pub mark: Begun<M>,
     pub sources: Vec<S>,
+    pub time: T,
     pub sink: K,
 }
 
@@ -168,10 +171,21 @@ fn start_record<'s, E: 's, R: Wait + Clock + Shelf + Sync + 's>(
     }
 }
 
-/// Runs, and tells at the end how many frames could not be sent.
-fn run_observed<
+/// Where a run counts.
+fn counters_of(observed: &Observed) -> RunCounters<'_> {
+    RunCounters {
+        tallies: observed.tallies.as_slice(),
+        unsent: &observed.signs.unsent,
+        outputs: observed.outputs.as_slice(),
+        left_out: observed.left_out.as_ref(),
+    }
+}
+
+/// Runs by the ticks of a ticker, and tells at the end how many frames could not be sent.
+fn run_ticked<
     's,
     S: Source + Send + Drop,
+    I: Ticker + Drop,
     M: Mark + Drop,
     K: Sink + Send + Drop,
     N: Naming + Send + 's,
@@ -180,11 +194,13 @@ fn run_observed<
     rt: &'s R,
     alloc: Global,
     serving: &'s Serving<'s>,
-    opened: Opened<S, M, K>,
+    opened: Opened<S, I, M, K>,
     recent: &'s Recent<N>,
 ) -> Result<Totals, ServiceFault>
-    requires { IsRunOf serving.now.concentrator.now (vec_len opened.sources) N.stream }
-    ensures { RanServing K.took M.stored serving.now.concentrator.now opened result }
+    requires { IsRunOf serving.now.concentrator.now (vec_len opened.sources) N.stream
+        (output_of serving.now.concentrator.now).rate }
+    ensures { RanServing S.told (GivesFrom I.gave opened.time)
+        K.took M.stored serving.now.concentrator.now opened result }
 {
     let (concentrator, options, observed) = (
         serving.concentrator,
@@ -194,26 +210,17 @@ fn run_observed<
     let Opened {
         mark,
         sources,
+        time,
         sink,
     } = opened;
     let output = concentrator.output();
-    let service = concentrator.service_settings();
-    let plan = plan_of(&service);
+    let plan = plan_of(&concentrator.service_settings());
     let (journal, signs) = (&observed.journal, &observed.signs);
     let Some(sources) = observe_all(rt, alloc, concentrator, observed, sources) else {
         return Err(ServiceFault::Run(HubFault::NoMemory));
     };
-    let wake = observed.wake.as_ref();
-    let time = TickTime::new(rt, output.rate, service.tick_ms, wake);
-    let clock = ClockTicker::new(time, output.rate, options.ticks, &signs.is_clock_unreadable);
-    let counters = RunCounters {
-        tallies: observed.tallies.as_slice(),
-        unsent: &signs.unsent,
-        outputs: observed.outputs.as_slice(),
-        left_out: observed.left_out.as_ref(),
-    };
-    let ticker = Reporting::new(rt, alloc, journal, counters, clock, options.every);
-    let ticker = ControlledTicker::new(rt, alloc, options.control, counters, ticker);
+    let counters = counters_of(observed);
+    let ticker = ControlledTicker::new(rt, alloc, options.control, counters, time);
     let ticker = RecordedTicker::new(rt, observed.recording.as_ref(), ticker);
     let ticker = WatchedTicker::new(
         rt,
@@ -237,6 +244,47 @@ fn run_observed<
     answer(outcome, is_unreadable)
 }
 
+/// Runs by the ticks of a clock.
+fn run_observed<
+    's,
+    S: Source + Send + Drop,
+    T: Timepiece + Drop,
+    M: Mark + Drop,
+    K: Sink + Send + Drop,
+    N: Naming + Rated + Send + 's,
+    R: Threads + Wait + Clock + Sync + 's,
+>(
+    rt: &'s R,
+    alloc: Global,
+    serving: &'s Serving<'s>,
+    opened: Opened<S, T, M, K>,
+    recent: &'s Recent<N>,
+) -> Result<Totals, ServiceFault>
+    requires { IsRunOf serving.now.concentrator.now (vec_len opened.sources) N.stream N.rate }
+    ensures { RanServing S.told (TicksBy T.showed opened.time (output_of serving.now.concentrator.now).rate)
+        K.took M.stored serving.now.concentrator.now opened result }
+{
+    let (options, observed) = (serving.options, serving.observed);
+    let Opened {
+        mark,
+        sources,
+        time,
+        sink,
+    } = opened;
+    let rate = serving.concentrator.output().rate;
+    let flag = &observed.signs.is_clock_unreadable;
+    let clock = ClockTicker::<T, N>::new(time, rate, options.ticks, flag);
+    let counters = counters_of(observed);
+    let ticker = Reporting::new(rt, alloc, &observed.journal, counters, clock, options.every);
+    let ticked = Opened {
+        mark,
+        sources,
+        time: ticker,
+        sink,
+    };
+    run_ticked(rt, alloc, serving, ticked, recent)
+}
+
 /// What a run answers: what its parts do, or that the clock could not be read.
 fn answer(outcome: Result<Totals, HubFault>, is_unreadable: bool) -> Result<Totals, ServiceFault>
     ensures { result ≡ answer_to outcome is_unreadable }
@@ -249,10 +297,11 @@ fn answer(outcome: Result<Totals, HubFault>, is_unreadable: bool) -> Result<Tota
 }
 
 /// Nothing is run of what was opened, for want of memory.
-fn not_begun<S: Source + Drop, M: Mark + Drop, K: Sink + Drop>(
-    opened: Opened<S, M, K>,
+fn not_begun<S: Source + Drop, T: Timepiece + Drop, M: Mark + Drop, K: Sink + Drop>(
+    opened: Opened<S, T, M, K>,
 ) -> Result<Totals, ServiceFault>
-    ensures { (concentrator : Concentrator) → RanServing K.took M.stored concentrator opened result }
+    ensures { (concentrator : Concentrator) → RanServing S.told
+        (TicksBy T.showed opened.time (output_of concentrator).rate) K.took M.stored concentrator opened result }
 {
     drop(opened);
     Err(ServiceFault::Run(HubFault::NoMemory))
@@ -263,21 +312,23 @@ fn conduct<
     's,
     E: 's,
     S: Source + Send + Drop + 's,
+    T: Timepiece + Drop + 's,
     M: Mark + Drop + 's,
     K: Sink + Send + Drop + 's,
-    N: Naming + Send + 's,
+    N: Naming + Rated + Send + 's,
     R: Threads + Wait + Clock + Eprint + RandomSource + Shelf + OwnFiles + Sync + 's,
 >(
     scope: &'s Scope<'s, E>,
     rt: &'s R,
     alloc: Global,
     serving: &'s Serving<'s>,
-    opened: Opened<S, M, K>,
+    opened: Opened<S, T, M, K>,
     record: Option<Series<'s>>,
     recent: &'s Recent<N>,
 ) -> Result<Totals, ServiceFault>
-    requires { IsRunOf serving.now.concentrator.now (vec_len opened.sources) N.stream }
-    ensures { RanServing K.took M.stored serving.now.concentrator.now opened result }
+    requires { IsRunOf serving.now.concentrator.now (vec_len opened.sources) N.stream N.rate }
+    ensures { RanServing S.told (TicksBy T.showed opened.time (output_of serving.now.concentrator.now).rate)
+        K.took M.stored serving.now.concentrator.now opened result }
 {
     let observed = serving.observed;
     let is_begun = start_record(scope, rt, alloc, record, observed)
@@ -303,26 +354,28 @@ fn conduct<
 fn run_keeping<
     'x,
     S: Source + Send + Drop + 'x,
+    T: Timepiece + Drop + 'x,
     M: Mark + Drop + 'x,
     K: Sink + Send + Drop + 'x,
-    N: Naming + Send + 'x,
+    N: Naming + Rated + Send + 'x,
     R: Threads + Wait + Clock + Eprint + RandomSource + Shelf + OwnFiles + Sync + 'x,
 >(
     rt: &'x R,
     alloc: Global,
     serving: &'x Serving<'x>,
-    opened: Opened<S, M, K>,
+    opened: Opened<S, T, M, K>,
     record: Option<Series<'x>>,
     recent: &'x Recent<N>,
 ) -> Result<Totals, ServiceFault>
-    requires { IsRunOf serving.now.concentrator.now (vec_len opened.sources) N.stream }
-    ensures { RanServing K.took M.stored serving.now.concentrator.now opened result }
+    requires { IsRunOf serving.now.concentrator.now (vec_len opened.sources) N.stream N.rate }
+    ensures { RanServing S.told (TicksBy T.showed opened.time (output_of serving.now.concentrator.now).rate)
+        K.took M.stored serving.now.concentrator.now opened result }
 {
     thread::scope(
         thread::scope_env(),
         rt,
         move |scope| -> Result<Totals, ServiceFault>
-            requires { IsRunOf serving.now.concentrator.now (vec_len opened.sources) N.stream }
+            requires { IsRunOf serving.now.concentrator.now (vec_len opened.sources) N.stream N.rate }
         { conduct(scope, rt, alloc, serving, opened, record, recent) },
     )
 }
@@ -330,19 +383,21 @@ fn run_keeping<
 /// Runs a concentrator of the stream that is named, and serves its consumers.
 fn run_named<
     S: Source + Send + Drop,
+    T: Timepiece + Drop,
     M: Mark + Drop,
     K: Sink + Send + Drop,
-    N: Naming + Send,
+    N: Naming + Rated + Send,
     R: Threads + Wait + Clock + Eprint + RandomSource + Shelf + OwnFiles + Sync,
 >(
     rt: &R,
     alloc: Global,
     serving: &Serving<'_>,
-    opened: Opened<S, M, K>,
+    opened: Opened<S, T, M, K>,
     record: Option<Series<'_>>,
 ) -> Result<Totals, ServiceFault>
-    requires { IsRunOf serving.now.concentrator.now (vec_len opened.sources) N.stream }
-    ensures { RanServing K.took M.stored serving.now.concentrator.now opened result }
+    requires { IsRunOf serving.now.concentrator.now (vec_len opened.sources) N.stream N.rate }
+    ensures { RanServing S.told (TicksBy T.showed opened.time (output_of serving.now.concentrator.now).rate)
+        K.took M.stored serving.now.concentrator.now opened result }
 {
     let output = serving.concentrator.output();
     let Ok(recent) = Recent::<N>::new(alloc, &output, opened.mark.start()) else {
@@ -354,6 +409,7 @@ fn run_named<
 /// Runs a concentrator, serves its consumers and prints what is told, for as long as it runs.
 pub fn run_serving<
     S: Source + Send + Drop,
+    T: Timepiece + Drop,
     M: Mark + Drop,
     K: Sink + Send + Drop,
     R: Threads + Wait + Clock + Eprint + RandomSource + Shelf + OwnFiles + Sync,
@@ -361,12 +417,14 @@ pub fn run_serving<
     rt: &R,
     alloc: Global,
     serving: &Serving<'_>,
-    opened: Opened<S, M, K>,
+    opened: Opened<S, T, M, K>,
     record: Option<Series<'_>>,
 ) -> Result<Totals, ServiceFault>
     requires { vec_len opened.sources ≡ streams_of serving.now.concentrator.now }
-    // Its totals are the sums over the receivers, with an entry for each stream; it failed as runs do; and its sink took what a run hands on.
-    ensures { RanServing K.took M.stored serving.now.concentrator.now opened result }
+    // Its totals are the sums over the receivers, with an entry for each stream; it failed as runs do; and it was one life, of which its
+    // sources gave what came, its timepiece showed the ticks, and its sink took what a run hands on.
+    ensures { RanServing S.told (TicksBy T.showed opened.time (output_of serving.now.concentrator.now).rate)
+        K.took M.stored serving.now.concentrator.now opened result }
 {
-    run_named::<S, M, K, Brand, R>(rt, alloc, serving, opened, record)
+    run_named::<S, T, M, K, Brand, R>(rt, alloc, serving, opened, record)
 }

@@ -4,3 +4,4 @@ pub mod Faults
 pub mod Said
 pub mod Status
 pub mod Steps
+pub mod Watching

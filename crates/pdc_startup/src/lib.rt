@@ -21,6 +21,7 @@ mod plan;
 mod ports;
 mod recorded;
 mod signs;
+mod silent;
 mod system_outputs;
 mod timed_mark;
 
@@ -37,6 +38,7 @@ pub use pdc_control::{
     AskFault, Control, ControlFault, ControlSocket, ControlledTicker, Form, Head, MAX_PATH,
     Request, ask, serve_control,
 };
+pub use pdc_network::{Link, TcpDialer};
 pub use pdc_recording::Limits;
 pub use plan::{MAX_LIMIT, Plan, plan_of};
 pub use recorded::RecordFile;

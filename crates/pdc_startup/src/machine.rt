@@ -4,6 +4,7 @@ ghost use Rattle.pdc_startup.specs.Begun.{begun_mark};
 ghost use Rattle.pdc_startup.specs.Concentrator.{IsMerger, IsNode, streams_of};
 ghost use Rattle.pdc_startup.specs.Faults.{IsOfFile, IsOfListener, IsOfMark, IsOfRecord, IsOfSink, IsOfSources};
 ghost use Rattle.pdc_startup.specs.Steps.{Attempt, Tells, attempt, beginning, reading};
+ghost use Rattle.pdc_startup.specs.Watching.{AreSilent};
 ghost use Rattle.pdc_startup.specs.declared.described.Step.TheVariants.{BeginRecord, OpenListener, OpenMetrics, OpenSink, OpenSources};
 
 use crate::begun::Begun;
@@ -16,10 +17,11 @@ use crate::recorded::open_record;
 use crate::system_outputs::SystemOutputs;
 use pdc_disk::FileDisk;
 use pdc_mark::{DiskMark, Mark};
-use pdc_network::{Link, Outputs};
+use pdc_network::{Link, Outputs, Receive, TcpDialer};
+use pdc_ports::Source;
 use pdc_recording::{Series, Shelf};
 use std::fs::File;
-use std::net::{Net, TcpListener, TcpStream};
+use std::net::{Net, TcpListener, TcpStream, UdpSocket};
 use std::rt::{Clock, Files as HostFiles};
 use std::sync::Wait;
 
@@ -32,6 +34,9 @@ pub trait Machine {
 
     /// Where its frames go.
     type Outputs: Outputs + Send + Drop;
+
+    /// What datagrams come to.
+    type Socket: Receive + Send + Drop;
 
     ghost tried: { Self → Self → List Attempt → Type 0 };
 
@@ -81,7 +86,9 @@ pub trait Machine {
         described: &Described,
     ) -> Result<Begun<Self::Mark>, ServiceFault>
         ensures faults { IfErr result IsOfMark }
-        ensures told { Tells tried self.old self.new (beginning files.now described.now (λ begun. Self.Mark.stored (begun_mark begun)) result ∷ []) };
+        ensures told { Tells tried self.old self.new
+            (beginning files.now described.now (λ begun. Self.Mark.stored (begun_mark begun))
+            result ∷ []) };
 
     /// Begins the record of a life with this mark, where it is recorded.
     ///
@@ -111,8 +118,11 @@ pub trait Machine {
         rt: &'a R,
         described: &Described,
         observed: &'a Observed,
-    ) -> Result<Vec<Link<'a, R>>, ServiceFault>
+    ) -> Result<Vec<Link<'a, R, Self::Socket>>, ServiceFault>
         ensures links { IfOk result (λ links. vec_len links ≡ streams_of described.now.concentrator) }
+        // They said nothing yet.
+        ensures silent { IfOk result (λ links. AreSilent
+            ⟦<Link<'a, R, Self::Socket, TcpDialer<'a, R>> as Source>⟧.told links.items) }
         ensures faults { IfErr result IsOfSources }
         ensures told { Tells tried self.old self.new (attempt OpenSources described.now result ∷ []) };
 
@@ -165,6 +175,8 @@ impl Machine for ThisMachine {
     type Mark = DiskMark<FileDisk>;
 
     type Outputs = SystemOutputs;
+
+    type Socket = UdpSocket;
 
     ghost tried = { λ _ _ _. Unit {0} };
 

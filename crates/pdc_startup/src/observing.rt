@@ -1,6 +1,7 @@
 //! What is watched of a run.
-ghost use Rattle.std.specs.Prelude.{◌≡◌, IfOk, IfSome, is_some, vec_len};
+ghost use Rattle.std.specs.Prelude.{◌≡◌, IfOk, IfSome, is_some, map, vec_len};
 ghost use Rattle.pdc_startup.specs.Concentrator.{is_woken, service_of};
+ghost use Rattle.pdc_startup.specs.Watching.{source_in};
 
 use crate::concentrator::Concentrator;
 use crate::expecting::expected_of;
@@ -254,7 +255,9 @@ fn observe<'a, S: Source + Drop, R: Wait + Clock>(
     observed: &'a Observed,
     number: usize,
     source: S,
-) -> Option<Watched<'a, S, R>> {
+) -> Option<Watched<'a, S, R>>
+    ensures { IfSome result (λ watched. source_in watched ≡ source) }
+{
     let tally = observed.tallies.get(number)?;
     let tags = concentrator.stream_tags(number)?;
     let hearing = Hearing::new(expected_of(concentrator, number)?);
@@ -282,7 +285,8 @@ pub fn observe_all<'a, S: Source + Drop, R: Wait + Clock>(
     observed: &'a Observed,
     sources: Vec<S>,
 ) -> Option<Vec<Watched<'a, S, R>>>
-    ensures { IfSome result (λ watched. vec_len watched ≡ vec_len sources) }
+    ensures len { IfSome result (λ watched. vec_len watched ≡ vec_len sources) }
+    ensures same { IfSome result (λ watched. map source_in watched.items ≡ sources.items) }
 {
     let mut watched = Vec::new(alloc);
     for source in sources {

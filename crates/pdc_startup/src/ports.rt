@@ -1,22 +1,27 @@
 //! The ports of a concentrator.
-ghost use Rattle.std.specs.Prelude.{◌≡◌, ◌≤◌, ◌<◌, IfErr, IfOk, length, vec_len};
+ghost use Rattle.std.specs.Prelude.{◌≡◌, ◌≤◌, ◌<◌, IfErr, IfOk, [], length, vec_len};
+ghost use Rattle.pdc_network.specs.Linked.{IsFreshLink};
 ghost use Rattle.pdc_startup.specs.Concentrator.{streams_of};
 ghost use Rattle.pdc_startup.specs.Faults.{IsOfListener, IsOfSink, IsOfSources};
+ghost use Rattle.pdc_startup.specs.Watching.{AreSilent};
 
 use crate::concentrator::Concentrator;
 use crate::fault::ServiceFault;
 use crate::observing::Observed;
+use crate::silent::Silent;
 use pdc_frame::StreamId;
 use pdc_hub::HubFault;
 use pdc_journal::{Journal, Tally};
 use pdc_network::{
-    Addresses, Connection, CountLimit, Destination, Link, Port, UdpOutputs, UdpSink, UdpSource,
+    Addresses, Connection, CountLimit, Destination, Dial, Link, Port, Receive, TcpDialer,
+    UdpOutputs, UdpSink, UdpSource,
 };
+use pdc_ports::Source;
 use pdc_settings::{Input, Network};
 use std::alloc::Global;
 use std::io;
 use std::io::ErrorKind;
-use std::net::{IpAddr, Net, SocketAddr, TcpListener, TcpStream, ToSocketAddrs};
+use std::net::{IpAddr, Net, SocketAddr, TcpListener, TcpStream, ToSocketAddrs, UdpSocket};
 use std::rt::Clock;
 use std::sync::Wait;
 
@@ -113,7 +118,8 @@ fn stream_numbered<'n, 'a>(
     }
 }
 
-/// The link to the sender of the stream, without its limit: a connection where it is asked for over TCP, and else its port.
+/// The link to the sender of the stream, without its limit: a connection where it is asked for over TCP, and else its port. It said nothing
+/// yet.
 fn open_way<'a, R: Net<Listener = TcpListener, Stream = TcpStream> + Clock + Wait>(
     rt: &'a R,
     alloc: Global,
@@ -121,6 +127,8 @@ fn open_way<'a, R: Net<Listener = TcpListener, Stream = TcpStream> + Clock + Wai
     journal: &'a Journal,
     stream: &Stream<'_, 'a>,
 ) -> Result<Link<'a, R>, ServiceFault>
+    ensures fresh { IfOk result (λ link. IsFreshLink
+        ⟦<UdpSocket as Receive>⟧.received ⟦<TcpDialer<'a, R> as Dial>⟧.dialed link) }
     ensures faults { IfErr result IsOfSources }
 {
     let (id, input, tally) = (stream.id, stream.input, stream.tally);
@@ -147,13 +155,14 @@ fn open_link<'a, R: Net<Listener = TcpListener, Stream = TcpStream> + Clock + Wa
     journal: &'a Journal,
     stream: &Stream<'_, 'a>,
 ) -> Result<Link<'a, R>, ServiceFault>
+    ensures fresh { IfOk result (λ link. ⟦<Link<'a, R, UdpSocket, TcpDialer<'a, R>> as Source>⟧.told link []) }
     ensures faults { IfErr result IsOfSources }
 {
     let mut link = open_way(rt, alloc, network, journal, stream)?;
-    if let Some(most) = stream.input.most_count {
-        let limit = CountLimit::new(rt, alloc, journal, stream.tally, most);
-        link.set_limit(Some(limit));
-    }
+    link.set_limit(match stream.input.most_count {
+        Some(most) => Some(CountLimit::new(rt, alloc, journal, stream.tally, most)),
+        None => None,
+    });
     Ok(link)
 }
 
@@ -167,9 +176,11 @@ fn open_all<'a, R: Net<Listener = TcpListener, Stream = TcpStream> + Clock + Wai
     ports: &[u16],
 ) -> Result<Vec<Link<'a, R>>, ServiceFault>
     ensures links { IfOk result (λ links. vec_len links ≡ length ports.now) }
+    ensures silent { IfOk result (λ links. AreSilent
+        ⟦<Link<'a, R, UdpSocket, TcpDialer<'a, R>> as Source>⟧.told links.items) }
     ensures faults { IfErr result IsOfSources }
 {
-    let mut links = Vec::new(alloc);
+    let mut links = Silent::new(alloc);
     for port in ports {
         let number = links.len();
         let Some(stream) = stream_numbered(network, concentrator, observed, number, *port) else {
@@ -181,7 +192,7 @@ fn open_all<'a, R: Net<Listener = TcpListener, Stream = TcpStream> + Clock + Wai
             Err(_) => return Err(ServiceFault::Run(HubFault::NoMemory)),
         }
     }
-    Ok(links)
+    Ok(links.into_sources())
 }
 
 /// A link to the sender of each stream, in their order.
@@ -193,6 +204,8 @@ pub fn open_links<'a, R: Net<Listener = TcpListener, Stream = TcpStream> + Clock
     observed: &'a Observed,
 ) -> Result<Vec<Link<'a, R>>, ServiceFault>
     ensures links { IfOk result (λ links. vec_len links ≡ streams_of concentrator.now) }
+    ensures silent { IfOk result (λ links. AreSilent
+        ⟦<Link<'a, R, UdpSocket, TcpDialer<'a, R>> as Source>⟧.told links.items) }
     ensures faults { IfErr result IsOfSources }
 {
     match concentrator {

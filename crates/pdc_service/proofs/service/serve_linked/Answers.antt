@@ -46,7 +46,9 @@ returns-clause-opened g c =
     (goes_on tried d OpenMetrics c.in_ok-metrics.ensures.told
     (goes_on tried d (BeginRecord c.args.files.now) c.in_ok-record.ensures.told
     (runs tried _ d _ c.run_serving.ensures.faults record {
+      sources = c.args.linked.sources.items;
+      silent = c.requires.silent;
       sink = c.in_ok-outputs.outputs;
       opened = c.in_ok-outputs.ensures.fresh;
-      handed = handed_by c.new.ensures refl (of_outputs (λ s. s.outputs) c.run_serving.ensures.handed);
+      handed = handed_by c.new.ensures refl refl (of_outputs (λ s. s.outputs) c.run_serving.ensures.handed);
     })))))

@@ -1,0 +1,55 @@
+//! Sources that said nothing yet.
+ghost use Rattle.std.specs.Prelude.{◌≡◌, ◌+◌, [], OnOk, vec_len};
+ghost use Rattle.pdc_startup.specs.Watching.{AreSilent};
+
+use pdc_hub::make_room;
+use pdc_ports::Source;
+use std::alloc::{AllocError, Global};
+
+/// Sources, in order, of which none said anything yet.
+#[derive(Drop)]
+pub struct Silent<S: Source + Drop> {
+    sources: Vec<S>,
+    pub ghost silent: { AreSilent S.told sources.items },
+}
+
+impl<S: Source + Drop> Silent<S> {
+    /// No source.
+    pub fn new(alloc: Global) -> Silent<S>
+        ensures { vec_len result.sources ≡ 0 }
+    {
+        Silent {
+            sources: Vec::new(alloc),
+        }
+    }
+
+    /// How many sources there are.
+    pub fn len(&self) -> usize
+        ensures { result ≡ vec_len self.now.sources }
+    {
+        self.sources.len()
+    }
+
+    /// Puts a source behind the others.
+    ///
+    /// # Errors
+    ///
+    /// [`AllocError`] where there is no room and none is got; the sources are as they were.
+    pub fn push(&mut self, source: S) -> Result<(), AllocError>
+        requires { S.told source [] }
+        ensures { OnOk result (vec_len self.new.sources ≡ vec_len self.old.sources + 1) }
+    {
+        let sources = &mut self.sources;
+        make_room(sources, 1)?;
+        sources.push_reserved(source);
+        Ok(())
+    }
+
+    /// The sources.
+    pub fn into_sources(self) -> Vec<S>
+        ensures same { result ≡ self.sources }
+        ensures silent { AreSilent S.told result.items }
+    {
+        self.sources
+    }
+}
