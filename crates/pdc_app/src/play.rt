@@ -4,7 +4,7 @@ use crate::FAILED;
 use crate::complaint::print_fault;
 use crate::loading::report_load;
 use pdc_command_line::Play;
-use pdc_play::{AnySettings, Ending, PlayFault, play_settings, read_settings};
+use pdc_play::{AnySettings, CountedReader, Ending, PlayFault, play_settings, read_settings};
 use pdc_service::{LoadFault, read_settings_text};
 use std::alloc::Global;
 use std::fs::File;
@@ -36,7 +36,7 @@ fn play_streams(
     b: AnySettings,
     m: AnySettings,
 ) -> Result<Ending, PlayFault> {
-    let mut reader = rt.reader();
+    let mut reader = CountedReader::new(rt.reader());
     let mut writer = BufWriter::new(alloc, io::writer(rt)).map_err(|_| PlayFault::Memory)?;
     play_settings(alloc, a, b, m, &mut reader, &mut writer)
 }

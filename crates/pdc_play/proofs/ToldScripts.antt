@@ -1,6 +1,6 @@
 -- A script that is played on a world is told by the histories that the world holds.
 use Rattle.std.proofs.Common.{◌≡◌, inl, ℕ, ◌+◌, List, [], ◌∷◌, length, Option, Result, Ok, Err, IfOk, refl, sym, ap, subst, ◌∙◌}
-use Rattle.std.specs.Io.KnownBytes.{Consumes}
+use Rattle.std.specs.Io.KnownBytes.{Consumes, IsAtEnd}
 use Rattle.std.specs.List.{slice_get}
 use Rattle.std.specs.Str.Lines.{strip_carriage_return}
 use Rattle.pdc_world.specs.Headline.{Headline}
@@ -76,15 +76,15 @@ end_told W H state text number at ending.NotAnEvent told holds e = e
 end_told W H state text number at (ending.Refused fault) told holds e = record { asked = e.asked; event = e.event; refused = e.refused W H holds; line = e.line }
 
 -- The same of a script that ended.
-record TellsAll (W : World) (read : List ℕ) (end : Ending) (printed : List ℕ) (last : WorldView) : Type 0 where
+record TellsAll (W : World) (AtEnd : Type 0) (read : List ℕ) (end : Ending) (printed : List ℕ) (last : WorldView) : Type 0 where
   pub after : List Happened
   pub holds : Holds W after last
-  pub ends : Ends (Tells W) (IsWhy W) (frames_in W) [] read end printed after
+  pub ends : Ends (Tells W) (IsWhy W) (frames_in W) [] AtEnd read end printed after
 
-early_told : (W : World) (first : WorldView) (read : List ℕ) (end : Ending) (printed : List ℕ) (last : WorldView) → Holds W [] first
-    → (e : EndsEarly RepliesSeen RefusesSeen frames_seen first read end printed last)
-    → (t : TellsLines W e.lines e.earlier last) → EndsEarly (Tells W) (IsWhy W) (frames_in W) [] read end printed t.after
-early_told W first read end printed last holds e t = record {
+early_told : (W : World) (first : WorldView) (AtEnd : Type 0) (read : List ℕ) (end : Ending) (printed : List ℕ) (last : WorldView) → Holds W [] first
+    → (e : EndsEarly RepliesSeen RefusesSeen frames_seen first AtEnd read end printed last)
+    → (t : TellsLines W e.lines e.earlier last) → EndsEarly (Tells W) (IsWhy W) (frames_in W) [] AtEnd read end printed t.after
+early_told W first AtEnd read end printed last holds e t = record {
   lines = e.lines;
   are_lines = e.are_lines;
   earlier = e.earlier;
@@ -98,15 +98,16 @@ early_told W first read end printed last holds e t = record {
   all = e.all;
 }
 
-all_told : (W : World) (first : WorldView) (read : List ℕ) (end : Ending) (printed : List ℕ) (last : WorldView) → Holds W [] first
-    → Ends RepliesSeen RefusesSeen frames_seen first read end printed last → TellsAll W read end printed last
-all_told W first read ending.Played printed last holds e =
+all_told : (W : World) (first : WorldView) (AtEnd : Type 0) (read : List ℕ) (end : Ending) (printed : List ℕ) (last : WorldView) → Holds W [] first
+    → Ends RepliesSeen RefusesSeen frames_seen first AtEnd read end printed last → TellsAll W AtEnd read end printed last
+all_told W first AtEnd read ending.Played printed last holds e =
     let earlier : TellsLines W e.lines e.played.earlier e.played.between = lines_told W first e.lines e.played.earlier e.played.between holds e.played.before in
     let now : TellsText W earlier.after e.text e.played.told last = text_told W earlier.after e.played.between e.text e.played.told last earlier.holds e.played.plays in
     record {
       after = now.after;
       holds = now.holds;
       ends = record {
+        at_end = e.at_end;
         lines = e.lines;
         are_lines = e.are_lines;
         text = e.text;
@@ -115,18 +116,18 @@ all_told W first read ending.Played printed last holds e =
         played = record { earlier = e.played.earlier; between = earlier.after; before = earlier.played; told = e.played.told; plays = now.plays; whole = e.played.whole };
       };
     }
-all_told W first read ending.NotAnEvent printed last holds e =
+all_told W first AtEnd read ending.NotAnEvent printed last holds e =
     let t : TellsLines W e.lines e.earlier last = lines_told W first e.lines e.earlier last holds e.before in
-    record { after = t.after; holds = t.holds; ends = early_told W first read ending.NotAnEvent printed last holds e t }
-all_told W first read (ending.Refused fault) printed last holds e =
+    record { after = t.after; holds = t.holds; ends = early_told W first AtEnd read ending.NotAnEvent printed last holds e t }
+all_told W first AtEnd read (ending.Refused fault) printed last holds e =
     let t : TellsLines W e.lines e.earlier last = lines_told W first e.lines e.earlier last holds e.before in
-    record { after = t.after; holds = t.holds; ends = early_told W first read (ending.Refused fault) printed last holds e t }
+    record { after = t.after; holds = t.holds; ends = early_told W first AtEnd read (ending.Refused fault) printed last holds e t }
 
 -- A script that was played on a world that held the empty history is told.
-pub told : (W : World) (first : WorldView) (start : Option (List ℕ)) (read : List ℕ) (end : Ending) (last : WorldView) (contents : Option (List ℕ))
-    → Holds W [] first → HasEnded RepliesSeen RefusesSeen frames_seen first start read end last contents → Headline (seen_of last) (rows_of last) → PublishedRowsAreThose → IsTold W start read end contents
-told W first start read end last contents holds h headline exact =
-    let all : TellsAll W read end h.printed last = all_told W first read end h.printed last holds h.ends in
+pub told : (W : World) (first : WorldView) (start : Option (List ℕ)) (AtEnd : Type 0) (read : List ℕ) (end : Ending) (last : WorldView) (contents : Option (List ℕ))
+    → Holds W [] first → HasEnded RepliesSeen RefusesSeen frames_seen first start AtEnd read end last contents → Headline (seen_of last) (rows_of last) → PublishedRowsAreThose → IsTold W start AtEnd read end contents
+told W first start AtEnd read end last contents holds h headline exact =
+    let all : TellsAll W AtEnd read end h.printed last = all_told W first AtEnd read end h.printed last holds h.ends in
     record {
       after = all.after;
       history = all.holds.history;
@@ -139,8 +140,8 @@ told W first start read end last contents holds h headline exact =
 
 pub run_told : (W : World) (first world : WorldView) (remaining rest start contents : Option (List ℕ)) (last : WorldView) (r : Result Ending PlayFault)
     → first ≡ world → Holds W [] world → Headline (seen_of last) (rows_of last) → PublishedRowsAreThose
-    → IfOk r (λ end. (read : List ℕ) × Consumes remaining rest read × HasEnded RepliesSeen RefusesSeen frames_seen first start read end last contents)
+    → IfOk r (λ end. (read : List ℕ) × Consumes remaining rest read × HasEnded RepliesSeen RefusesSeen frames_seen first start (IsAtEnd rest) read end last contents)
     → IfOk r (IsPlayedOn W remaining rest start contents)
 run_told W first world remaining rest start contents last (Ok end) e holds headline exact h =
-    inl (record { read = h.0; consumed = h.1; told = told W first start h.0 end last contents (subst (λ (v : WorldView). Holds W [] v) (sym e) holds) h.2 headline exact })
+    inl (record { read = h.0; consumed = h.1; told = told W first start (IsAtEnd rest) h.0 end last contents (subst (λ (v : WorldView). Holds W [] v) (sym e) holds) h.2 headline exact })
 run_told W first world remaining rest start contents last (Err fault) e holds headline exact h = tt

@@ -9,3 +9,4 @@ pub mod Written
 pub mod Seen
 pub mod Told
 pub mod Roles
+pub mod Counted

@@ -55,21 +55,19 @@ pub record Stands {T : Type 0} (replies : T → Asked → Reply → T → Type 0
   pub line_number : number ≡ counted (length lines)
   pub event_number : at ≡ counted (events_in lines)
 
--- The script has ended, and all that is printed of it was written.
-pub record HasEnded {T : Type 0} (replies : T → Asked → Reply → T → Type 0) (refuses : T → Asked → Fault → Type 0) (frames : T → ℕ → Option (List ℕ)) (first : T) (start : Option (List ℕ)) (read : List ℕ) (end : Ending) (last : T) (contents : Option (List ℕ)) : Type 0 where
+-- The script has ended, where the input may be at its end, and all that is printed of it was written.
+pub record HasEnded {T : Type 0} (replies : T → Asked → Reply → T → Type 0) (refuses : T → Asked → Fault → Type 0) (frames : T → ℕ → Option (List ℕ)) (first : T) (start : Option (List ℕ)) (AtEnd : Type 0) (read : List ℕ) (end : Ending) (last : T) (contents : Option (List ℕ)) : Type 0 where
   pub printed : List ℕ
-  pub ends : Ends replies refuses frames first read end printed last
+  pub ends : Ends replies refuses frames first AtEnd read end printed last
   pub written : Appends start contents printed
 
--- It has ended by a line of it, and not by its end.
-pub record HasEndedEarly {T : Type 0} (replies : T → Asked → Reply → T → Type 0) (refuses : T → Asked → Fault → Type 0) (frames : T → ℕ → Option (List ℕ)) (first : T) (start : Option (List ℕ)) (read : List ℕ) (end : Ending) (last : T) (contents : Option (List ℕ)) : Type 0 where
-  pub ended : HasEnded replies refuses frames first start read end last contents
-  pub early : end ≡ ending.Played → ⊥
+-- It has ended by a line that LF ends, and not by the end of the input.
+abbrev pub HasEndedEarly : {T : Type 0} → (T → Asked → Reply → T → Type 0) → (T → Asked → Fault → Type 0) → (T → ℕ → Option (List ℕ)) → (first : T) → (start : Option (List ℕ)) → (read : List ℕ) → Ending → (last : T) → (contents : Option (List ℕ)) → Type 0
+HasEndedEarly replies refuses frames first start read end last contents = HasEnded replies refuses frames first start ⊥ read end last contents
 
 -- What comes of so many more bytes of a reader: they were read, and each line that they end was played; or the script has ended, at its
 -- end only where the reader is.
 pub record ReadsOn {T : Type 0} (replies : T → Asked → Reply → T → Type 0) (refuses : T → Asked → Fault → Type 0) (frames : T → ℕ → Option (List ℕ)) (first : T) (start : Option (List ℕ)) (read begun : List ℕ) (number at : ℕ) (now : T) (remaining rest contents : Option (List ℕ)) (answer : Result (Option Ending) PlayFault) : Type 0 where
   pub came : List ℕ
   pub consumed : Consumes remaining rest came
-  pub comes : Comes (Stands replies frames first start (read ++ came) begun number at now contents) (λ end. HasEnded replies refuses frames first start (read ++ came) end now contents) answer
-  pub whole : answer ≡ Ok (Some ending.Played) → IsAtEnd rest
+  pub comes : Comes (Stands replies frames first start (read ++ came) begun number at now contents) (λ end. HasEnded replies refuses frames first start (IsAtEnd rest) (read ++ came) end now contents) answer

@@ -104,12 +104,12 @@ pub record IsEnded (left text : List ℕ) : Type 0 where
   pub one : IsOneLine line
   pub stripped : text ≡ strip_carriage_return line
 
--- the next line of what is left, which the end of the input ends where LF does not
-abbrev pub IsNextLine : (left text : List ℕ) → Type 0
-IsNextLine left text = IsEnded left text ⊎ ((left ≡ text) × IsOneLine text)
+-- The next line of what is left: LF ends it, or where there is none, and the input is at its end, that.
+abbrev pub IsNextLine : (AtEnd : Type 0) → (left text : List ℕ) → Type 0
+IsNextLine AtEnd left text = IsEnded left text ⊎ (AtEnd × (left ≡ text) × IsOneLine text)
 
--- The script ends in a line of what was read: all lines before it were played.
-pub record EndsEarly {T : Type 0} (replies : T → Asked → Reply → T → Type 0) (refuses : T → Asked → Fault → Type 0) (frames : T → ℕ → Option (List ℕ)) (first : T) (read : List ℕ) (end : Ending) (printed : List ℕ) (last : T) : Type 0 where
+-- The script ends in a line of what was read, behind which the input may be at its end: all lines before it were played.
+pub record EndsEarly {T : Type 0} (replies : T → Asked → Reply → T → Type 0) (refuses : T → Asked → Fault → Type 0) (frames : T → ℕ → Option (List ℕ)) (first : T) (AtEnd : Type 0) (read : List ℕ) (end : Ending) (printed : List ℕ) (last : T) : Type 0 where
   pub lines : List (List ℕ)
   pub are_lines : AreLines lines
   pub earlier : List ℕ
@@ -117,13 +117,15 @@ pub record EndsEarly {T : Type 0} (replies : T → Asked → Reply → T → Typ
   pub left : List ℕ
   pub whole : read ≡ spelled lines ++ left
   pub text : List ℕ
-  pub next : IsNextLine left text
+  pub next : IsNextLine AtEnd left text
   pub told : List ℕ
   pub ends : EndsBy refuses last text (counted (length lines + 1)) (counted (events_in lines + 1)) end told
   pub all : printed ≡ earlier ++ told
 
--- The script was played to its end: behind the last LF of what was read stands its last line, which may be empty.
-pub record EndsLate {T : Type 0} (replies : T → Asked → Reply → T → Type 0) (frames : T → ℕ → Option (List ℕ)) (first : T) (read printed : List ℕ) (last : T) : Type 0 where
+-- The script was played to its end, where the input is at its own: behind the last LF of what was read stands its last line, which may be
+-- empty.
+pub record EndsLate {T : Type 0} (replies : T → Asked → Reply → T → Type 0) (frames : T → ℕ → Option (List ℕ)) (first : T) (AtEnd : Type 0) (read printed : List ℕ) (last : T) : Type 0 where
+  pub at_end : AtEnd
   pub lines : List (List ℕ)
   pub are_lines : AreLines lines
   pub text : List ℕ
@@ -131,8 +133,8 @@ pub record EndsLate {T : Type 0} (replies : T → Asked → Reply → T → Type
   pub whole : read ≡ spelled lines ++ text
   pub played : PlaysBehind replies frames (HasPlayed replies frames first lines) text printed last
 
--- How a script ends of which these bytes were read, with all that was printed.
-abbrev pub Ends : {T : Type 0} → (T → Asked → Reply → T → Type 0) → (T → Asked → Fault → Type 0) → (T → ℕ → Option (List ℕ)) → (first : T) → (read : List ℕ) → Ending → (printed : List ℕ) → (last : T) → Type 0
-Ends replies refuses frames first read ending.Played printed last = EndsLate replies frames first read printed last
-Ends replies refuses frames first read ending.NotAnEvent printed last = EndsEarly replies refuses frames first read ending.NotAnEvent printed last
-Ends replies refuses frames first read (ending.Refused fault) printed last = EndsEarly replies refuses frames first read (ending.Refused fault) printed last
+-- How a script ends of which these bytes were read, behind which the input may be at its end, with all that was printed.
+abbrev pub Ends : {T : Type 0} → (T → Asked → Reply → T → Type 0) → (T → Asked → Fault → Type 0) → (T → ℕ → Option (List ℕ)) → (first : T) → (AtEnd : Type 0) → (read : List ℕ) → Ending → (printed : List ℕ) → (last : T) → Type 0
+Ends replies refuses frames first AtEnd read ending.Played printed last = EndsLate replies frames first AtEnd read printed last
+Ends replies refuses frames first AtEnd read ending.NotAnEvent printed last = EndsEarly replies refuses frames first AtEnd read ending.NotAnEvent printed last
+Ends replies refuses frames first AtEnd read (ending.Refused fault) printed last = EndsEarly replies refuses frames first AtEnd read (ending.Refused fault) printed last

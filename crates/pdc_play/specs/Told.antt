@@ -1,6 +1,6 @@
 -- A script that is told by a history: what is printed of it follows from the settings and the script alone.
 use Rattle.std.specs.Prelude.{◌≡◌, ◌⊎◌, ℕ, List, [], ◌∷◌, Option, None, Some}
-use Rattle.std.specs.Io.KnownBytes.{Appends, Consumes}
+use Rattle.std.specs.Io.KnownBytes.{Appends, Consumes, IsAtEnd}
 use Rattle.std.specs.List.{AllByRecursion, slice_get}
 use Rattle.pdc_history.specs.declared.event_fault.Fault.{Fault}
 use Rattle.pdc_history.specs.declared.event_fault.Fault.TheVariants.{PremiseBroken}
@@ -37,12 +37,13 @@ pub record Tells (W : World) (H : List Happened) (asked : Asked) (reply : Reply)
 abbrev pub frames_in : World → List Happened → ℕ → Option (List ℕ)
 frames_in W H number = slice_get (sent W H) number
 
--- The script whose first bytes were read ended so, and what was printed of it is told by a history of this world. The headline holds of all
--- that is seen of the world then, and each row that was published shows a block exactly where one was given in time.
-pub record IsTold (W : World) (start : Option (List ℕ)) (read : List ℕ) (end : Ending) (contents : Option (List ℕ)) : Type 0 where
+-- The script whose first bytes were read ended so, where the input may be at its end, and what was printed of it is told by a history of this
+-- world. The headline holds of all that is seen of the world then, and each row that was published shows a block exactly where one was given
+-- in time.
+pub record IsTold (W : World) (start : Option (List ℕ)) (AtEnd : Type 0) (read : List ℕ) (end : Ending) (contents : Option (List ℕ)) : Type 0 where
   pub after : List Happened
   pub history : IsHistory W after
-  pub ended : HasEnded (Tells W) (IsWhy W) (frames_in W) [] start read end after contents
+  pub ended : HasEnded (Tells W) (IsWhy W) (frames_in W) [] start AtEnd read end after contents
   pub last : WorldView
   pub holds : Holds W after last
   pub headline : Headline (seen_of last) (rows_of last)
@@ -52,7 +53,7 @@ pub record IsTold (W : World) (start : Option (List ℕ)) (read : List ℕ) (end
 pub record IsReadAndTold (W : World) (remaining rest start : Option (List ℕ)) (end : Ending) (contents : Option (List ℕ)) : Type 0 where
   pub read : List ℕ
   pub consumed : Consumes remaining rest read
-  pub told : IsTold W start read end contents
+  pub told : IsTold W start (IsAtEnd rest) read end contents
 
 -- It ended at once with this fault, which is told, and nothing was read.
 pub record IsRefused (fault : Fault) (remaining rest start : Option (List ℕ)) (end : Ending) (contents : Option (List ℕ)) : Type 0 where

@@ -1,7 +1,8 @@
 //! Settings of either kind.
-ghost use Rattle.std.specs.Prelude.{◌≡◌, IfErr, IfOk, IsSomeAnd};
+ghost use Rattle.std.specs.Prelude.{◌≡◌, IfErr, IfOk, IsErrOf, IsSomeAnd};
 ghost use Rattle.toml.specs.Parse.{parse_document};
 ghost use Rattle.pdc_settings.specs.Settings.{IsFaultOf};
+ghost use Rattle.pdc_settings.specs.Wanting.{IsTomlWant};
 ghost use Rattle.pdc_play.specs.Roles.{IsAnyFault, IsAnySettings, roles_of};
 
 use pdc_settings::{MergerSettings, NodeSettings, SettingsFault, is_of_merger};
@@ -31,10 +32,11 @@ pub struct Roles {
 ///
 /// # Errors
 ///
-/// Why it is none of its kind.
+/// Why it is none of its kind; `NoMemory` where `toml` answered that memory was wanted.
 pub fn read_settings(alloc: Global, text: &str) -> Result<AnySettings, SettingsFault>
     ensures value { IfOk result (λ settings. IsSomeAnd (parse_document text.now) (λ members. IsAnySettings members settings)) }
     ensures fault { IfErr result (IsFaultOf IsAnyFault text.now) }
+    ensures wanted { IsErrOf result SettingsFault.NoMemory → IsTomlWant text.now }
 {
     if is_of_merger(alloc, text)? {
         Ok(AnySettings::Merger(MergerSettings::from_toml(alloc, text)?))

@@ -1,4 +1,6 @@
 //! Why a run ends before its script.
+ghost use Rattle.std.specs.Prelude.{◌≡◌};
+ghost use Rattle.pdc_play.specs.declared.fault.PlayFault.{PlayFault};
 
 use crate::run::MAX_READS;
 use std::alloc::{AllocError, AllocFailed};
@@ -23,6 +25,8 @@ pub enum PlayFault {
 }
 
 impl From<AllocError> for PlayFault {
+    ghost from_gives = { λ _ fault. fault ≡ PlayFault.Memory };
+
     fn from(_error: AllocError) -> PlayFault {
         PlayFault::Memory
     }

@@ -3,7 +3,7 @@
 //! [`run_script`] is the whole run over any reader and writer, and over whatever [`Plays`] events. Its promise to the layers above: what is
 //! printed is the line of each event's reply, up to the first event that is refused or line that is none, and what is told of that one.
 //! `specs/Script.antt` has the definition. A line is read as the one event that it is by the grammar in `specs/Line.antt`
-//! ([`read_event`]), and what is printed of a reply is the text in `specs/Printed.antt` ([`reply_line`]).
+//! ([`read_event`]), and what is printed of a reply is the text in `specs/Printed.antt` ([`write_reply`]).
 //!
 //! [`OnWorld`] is a world of two nodes and a merger as what plays events; [`play_over`] begins one over three marks and plays a script on
 //! it, [`play_roles`] and [`play_settings`] over new marks. What is printed then is the script told by a history of that world
@@ -13,6 +13,7 @@
 
 mod any;
 mod begins;
+mod counted;
 mod ending;
 mod fault;
 mod hexadecimal;
@@ -32,12 +33,13 @@ mod written;
 
 pub use any::{AnySettings, Roles, read_settings, roles_of_three};
 pub use begins::{play_over, play_roles, play_settings};
+pub use counted::CountedReader;
 pub use ending::Ending;
 pub use fault::PlayFault;
 pub use line::{NotRead, read_event};
 pub use on_world::OnWorld;
 pub use player::Plays;
-pub use printed::{fault_line, not_an_event_line, reply_line};
+pub use printed::{write_fault, write_not_an_event, write_reply};
 pub use run::{MAX_READS, run_script};
 pub use unbegun::tell_unbegun;
 pub use written::Written;

@@ -1,5 +1,6 @@
 //! A line of a script.
-ghost use Rattle.std.specs.Prelude.{◌≡◌, IfOk, IsErrOf, None, Some, option_map};
+ghost use Rattle.std.specs.Prelude.{◌≡◌, IfOk, IsErrOf, None, OnErr, Some, option_map};
+ghost use Rattle.pdc_history.specs.pdc_memory.Asking.{SomeWasRefused};
 ghost use Rattle.pdc_history.specs.Handed.{act_of, asked_of, store_of, who_of};
 ghost use Rattle.pdc_history.specs.Event.{StopDuring};
 ghost use Rattle.pdc_play.specs.Line.{act_of_core, asked_behind, asked_of_core, asked_of_line, asked_of_three, asked_of_two, core_of, landing_of};
@@ -21,7 +22,7 @@ pub enum NotRead {
     /// It has another form than each event's.
     #[error("not an event")]
     NotAnEvent,
-    /// There is no memory for its bytes.
+    /// A request for memory for its bytes was refused.
     #[error("Z1 NoMemory")]
     NoMemory,
 }
@@ -64,7 +65,8 @@ fn landing(word: &[u8]) -> Option<bool>
 
 /// The event of a line of two words.
 fn read_two(alloc: Global, verb: &[u8], word: &[u8]) -> Result<Option<Written>, AllocError>
-    ensures { IfOk result (λ found. option_map asked_in found ≡ asked_of_two verb.now word.now) }
+    ensures event { IfOk result (λ found. option_map asked_in found ≡ asked_of_two verb.now word.now) }
+    ensures refused { OnErr result SomeWasRefused }
 {
     if verb == b"send".as_slice() {
         return Ok(bytes(alloc, word)?.map(|bytes| Written::Send { bytes }));
@@ -130,7 +132,8 @@ fn read_three(
     who: Who,
     word: &[u8],
 ) -> Result<Option<Written>, AllocError>
-    ensures { IfOk result (λ found. option_map asked_in found ≡ asked_of_three verb.now (who_of who) word.now) }
+    ensures event { IfOk result (λ found. option_map asked_in found ≡ asked_of_three verb.now (who_of who) word.now) }
+    ensures refused { OnErr result SomeWasRefused }
 {
     if verb == b"junk".as_slice() {
         return Ok(bytes(alloc, word)?.map(|bytes| Written::Junk { who, bytes }));
@@ -140,7 +143,8 @@ fn read_three(
 
 /// The event of a line that has more words than one.
 fn read_words(alloc: Global, verb: &[u8], rest: &[u8]) -> Result<Option<Written>, AllocError>
-    ensures { IfOk result (λ found. option_map asked_in found ≡ asked_behind verb.now (cut rest.now).word (cut rest.now).rest) }
+    ensures event { IfOk result (λ found. option_map asked_in found ≡ asked_behind verb.now (cut rest.now).word (cut rest.now).rest) }
+    ensures refused { OnErr result SomeWasRefused }
 {
     let words = cut_word(rest);
     match words.rest {
@@ -156,10 +160,11 @@ fn read_words(alloc: Global, verb: &[u8], rest: &[u8]) -> Result<Option<Written>
 ///
 /// # Errors
 ///
-/// `NotAnEvent` where it is none: it has another form than each event's. `NoMemory` where there is none for its bytes.
+/// `NotAnEvent` where it is none: it has another form than each event's. `NoMemory` where a request for its bytes was refused.
 pub fn read_event(alloc: Global, line: &[u8]) -> Result<Written, NotRead>
     ensures event { IfOk result (λ written. asked_of_line line.now ≡ Some (asked_in written)) }
     ensures not { IsErrOf result NotRead.NotAnEvent → asked_of_line line.now ≡ None }
+    ensures refused { IsErrOf result NotRead.NoMemory → SomeWasRefused }
 {
     let words = cut_word(line);
     let Some(rest) = words.rest else {

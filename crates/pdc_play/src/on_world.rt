@@ -1,5 +1,6 @@
 //! A world as what plays events.
 ghost use Rattle.std.specs.Prelude.{◌≡◌};
+ghost use Rattle.pdc_history.specs.pdc_memory.Asking.{SomeWasRefused};
 ghost use Rattle.pdc_play.specs.Seen.{frames_seen, RefusesSeen, RepliesSeen};
 
 use crate::player::Plays;
@@ -42,6 +43,8 @@ impl<S: Store> Plays for OnWorld<S> {
     ghost replies = { RepliesSeen };
 
     ghost refuses = { RefusesSeen };
+
+    ghost wants = { SomeWasRefused };
 
     ghost frames = { frames_seen };
 

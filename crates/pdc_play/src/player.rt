@@ -1,8 +1,9 @@
 //! Who plays events.
-ghost use Rattle.std.specs.Prelude.{◌≡◌, ℕ, List, Option, IfOk, IfErr};
+ghost use Rattle.std.specs.Prelude.{◌≡◌, ℕ, List, Option, IfOk, IfErr, IsErrOf};
 ghost use Rattle.std.specs.Option.{option_copied};
 ghost use Rattle.pdc_history.specs.Handed.{asked_of};
 ghost use Rattle.pdc_history.specs.declared.event_fault.Fault.{Fault};
+ghost use Rattle.pdc_history.specs.declared.event_fault.Fault.TheVariants.{NoMemory};
 ghost use Rattle.pdc_history.specs.declared.reply.Reply.{Reply};
 ghost use Rattle.pdc_history.specs.Asked.{Asked};
 
@@ -16,6 +17,9 @@ pub trait Plays {
     // An event may be refused so.
     ghost refuses: { Self → Asked → Fault → Type 0 };
 
+    // For want of memory it is refused only where this is so.
+    ghost wants: { Type 0 };
+
     // The frames that were sent, by their numbers.
     ghost frames: { Self → ℕ → Option (List ℕ) };
 
@@ -27,7 +31,8 @@ pub trait Plays {
     fn play_event(&mut self, event: &Event) -> Result<Reply, Fault>
         ensures reply { IfOk result (λ reply. replies self.old (asked_of event.now) reply self.new) }
         ensures refused { IfErr result (λ fault. refuses self.old (asked_of event.now) fault) }
-        ensures same { IfErr result (λ _. self.new ≡ self.old) };
+        ensures same { IfErr result (λ _. self.new ≡ self.old) }
+        ensures memory { IsErrOf result NoMemory → wants };
 
     /// The frame of this number, from 0, among all that were sent.
     fn frame(&self, number: usize) -> Option<&[u8]>

@@ -1,13 +1,16 @@
-//! What is printed of replies and faults.
-ghost use Rattle.std.specs.Prelude.{◌≡◌, IfOk};
-ghost use Rattle.std.specs.String.{string_bytes};
+//! What is printed of replies and faults, a line each. Nothing asks for memory.
+ghost use Rattle.std.specs.Prelude.{◌≡◌, ◌++◌, [], OnOk, codes};
+ghost use Rattle.std.specs.Io.KnownBytes.{Appends};
+ghost use Rattle.pdc_history.specs.declared.reply.Reply.TheVariants as told;
 ghost use Rattle.pdc_play.specs.Printed as printed;
 
+use crate::hexadecimal::write_upper;
 use crate::texts::{name_text, premise_text};
 use pdc_align::Ticked;
-use pdc_history::{Fault, Published, Reply};
+use pdc_history::{Fault, Published, Reply, Who};
 use pdc_life::Outcome;
-use std::alloc::{AllocError, Global};
+use std::io;
+use std::io::Write;
 
 /// What came of bytes that came to a core.
 fn came_text(outcome: Option<Outcome>) -> &'static str
@@ -19,80 +22,102 @@ fn came_text(outcome: Option<Outcome>) -> &'static str
     }
 }
 
-/// What a tick did.
-fn ticked_text(alloc: Global, ticked: Ticked) -> Result<String, AllocError>
-    ensures { IfOk result (λ text. string_bytes text ≡ printed.ticked_of ticked) }
+/// Writes what a tick did.
+fn write_ticked<W: Write>(ticked: Ticked, writer: &mut W) -> io::Result<()>
+    ensures { OnOk result (Appends (W.contents writer.old) (W.contents writer.new) (printed.ticked_of ticked)) }
 {
     let used_up = if ticked.used_up { " used_up" } else { "" };
     match ticked.change {
-        None => format!(in alloc; "closed={} change=none{used_up}", ticked.closed),
-        Some(change) => format!(in alloc; "closed={} change={change}{used_up}", ticked.closed),
+        None => write!(writer, "closed={} change=none{used_up}", ticked.closed),
+        Some(change) => write!(writer, "closed={} change={change}{used_up}", ticked.closed),
     }
 }
 
-/// The row that was published.
-fn row_text(alloc: Global, row: Option<Published>, frame: &[u8]) -> Result<String, AllocError>
-    ensures { IfOk result (λ text. string_bytes text ≡ printed.row_of row frame.now) }
+/// Writes the row that was published.
+fn write_row<W: Write>(row: Option<Published>, frame: &[u8], writer: &mut W) -> io::Result<()>
+    ensures { OnOk result (Appends (W.contents writer.old) (W.contents writer.new) (printed.row_of row frame.now)) }
 {
     let Some(row) = row else {
-        return "none".to_string(alloc);
+        return write!(writer, "none");
     };
-    let bytes = hex::encode_upper(alloc, frame)?;
-    format!(in alloc; "{} {bytes}", row.instant)
+    write!(writer, "{} ", row.instant)?;
+    write_upper(frame, writer)
 }
 
-/// The line of a reply, with LF; `frame` is the frame that was published.
+/// Writes the name of a core, and a space.
+fn write_name<W: Write>(who: Who, writer: &mut W) -> io::Result<()>
+    ensures { OnOk result (Appends (W.contents writer.old) (W.contents writer.new) (printed.name_of who ++ codes " ")) }
+{
+    write!(writer, "{} ", name_text(who))
+}
+
+/// Writes the line of a tick.
+fn write_tick<W: Write>(who: Who, ticked: Ticked, writer: &mut W) -> io::Result<()>
+    ensures { OnOk result (Appends (W.contents writer.old) (W.contents writer.new) (printed.line_of (told.Ticked who ticked) [])) }
+{
+    write_name(who, writer)?;
+    write_ticked(ticked, writer)?;
+    write!(writer, "\n")
+}
+
+/// Writes the line of a publish.
+fn write_published<W: Write>(
+    who: Who,
+    row: Option<Published>,
+    frame: &[u8],
+    writer: &mut W,
+) -> io::Result<()>
+    ensures { OnOk result (Appends (W.contents writer.old) (W.contents writer.new) (printed.line_of (told.Published who row) frame.now)) }
+{
+    write_name(who, writer)?;
+    write_row(row, frame, writer)?;
+    write!(writer, "\n")
+}
+
+/// Writes the line of a reply, with LF; `frame` is the frame that was published.
 ///
 /// # Errors
 ///
-/// [`AllocError`] where there is no memory for it.
-pub fn reply_line(alloc: Global, reply: &Reply, frame: &[u8]) -> Result<String, AllocError>
-    ensures { IfOk result (λ line. string_bytes line ≡ printed.line_of reply.now frame.now) }
+/// What the writer answers.
+pub fn write_reply<W: Write>(reply: &Reply, frame: &[u8], writer: &mut W) -> io::Result<()>
+    ensures { OnOk result (Appends (W.contents writer.old) (W.contents writer.new) (printed.line_of reply.now frame.now)) }
 {
     match *reply {
-        Reply::Sent { number } => format!(in alloc; "sent {number}\n"),
+        Reply::Sent { number } => write!(writer, "sent {number}\n"),
         Reply::Came { who, outcome } => {
-            format!(in alloc; "{} {}\n", name_text(who), came_text(outcome))
+            write!(writer, "{} {}\n", name_text(who), came_text(outcome))
         }
-        Reply::Ticked { who, ticked } => {
-            let text = ticked_text(alloc, ticked)?;
-            format!(in alloc; "{} {text}\n", name_text(who))
-        }
-        Reply::Published { who, published } => {
-            let text = row_text(alloc, published, frame)?;
-            format!(in alloc; "{} {text}\n", name_text(who))
-        }
+        Reply::Ticked { who, ticked } => write_tick(who, ticked, writer),
+        Reply::Published { who, published } => write_published(who, published, frame, writer),
         Reply::Stopped { who, start, floor } => {
-            format!(in alloc; "{} start={start} floor={floor}\n", name_text(who))
+            write!(writer, "{} start={start} floor={floor}\n", name_text(who))
         }
     }
 }
 
-/// The line of a fault, with LF: `at` is the number of the event, from 1, or 0 where the world does not begin.
+/// Writes the line of a fault, with LF: `at` is the number of the event, from 1, or 0 where the world does not begin.
 ///
 /// # Errors
 ///
-/// [`AllocError`] where there is no memory for it.
-pub fn fault_line(alloc: Global, fault: Fault, at: u64) -> Result<String, AllocError>
-    ensures { IfOk result (λ line. string_bytes line ≡ printed.fault_line fault at) }
+/// What the writer answers.
+pub fn write_fault<W: Write>(fault: Fault, at: u64, writer: &mut W) -> io::Result<()>
+    ensures { OnOk result (Appends (W.contents writer.old) (W.contents writer.new) (printed.fault_line fault at)) }
 {
     match fault {
-        Fault::PremiseBroken(broken) => {
-            format!(in alloc; "X1 {} at {at}\n", premise_text(broken))
-        }
-        Fault::NoSuchFrame => format!(in alloc; "X2 at {at}\n"),
-        Fault::NoMemory => format!(in alloc; "X3 at {at}\n"),
-        Fault::StartsUsedUp => format!(in alloc; "X4 at {at}\n"),
+        Fault::PremiseBroken(broken) => { write!(writer, "X1 {} at {at}\n", premise_text(broken)) }
+        Fault::NoSuchFrame => write!(writer, "X2 at {at}\n"),
+        Fault::NoMemory => write!(writer, "X3 at {at}\n"),
+        Fault::StartsUsedUp => write!(writer, "X4 at {at}\n"),
     }
 }
 
-/// The line of a line that is no event, with LF: `number` is its number among all lines, from 1.
+/// Writes the line of a line that is no event, with LF: `number` is its number among all lines, from 1.
 ///
 /// # Errors
 ///
-/// [`AllocError`] where there is no memory for it.
-pub fn not_an_event_line(alloc: Global, number: u64) -> Result<String, AllocError>
-    ensures { IfOk result (λ line. string_bytes line ≡ printed.not_an_event number) }
+/// What the writer answers.
+pub fn write_not_an_event<W: Write>(number: u64, writer: &mut W) -> io::Result<()>
+    ensures { OnOk result (Appends (W.contents writer.old) (W.contents writer.new) (printed.not_an_event number)) }
 {
-    format!(in alloc; "line {number}: not an event\n")
+    write!(writer, "line {number}: not an event\n")
 }

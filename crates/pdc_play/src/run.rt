@@ -1,9 +1,14 @@
 //! The run of a script over a reader and a writer.
-ghost use Rattle.std.specs.Prelude.{◌≡◌, ℕ, List, Option, IfOk, Ok};
+ghost use Rattle.std.specs.Prelude.{◌≡◌, ◌+◌, ◌≤◌, ℕ, List, Option, IfOk, IsErrOf, Ok, Some};
 ghost use Rattle.std.specs.Io.KnownBytes.{Consumes, IsAtEnd};
+ghost use Rattle.pdc_history.specs.pdc_memory.Asking.{SomeWasRefused};
+ghost use Rattle.pdc_history.specs.declared.event_fault.Fault.TheVariants.{NoMemory};
+ghost use Rattle.pdc_play.specs.Counted.{reader_of, reads_of};
 ghost use Rattle.pdc_play.specs.Run.{HasEnded, ReadsOn, Stands};
-ghost use Rattle.pdc_play.specs.declared.ending.Ending.TheVariants.{Played};
+ghost use Rattle.pdc_play.specs.Script.{counted};
+ghost use Rattle.pdc_play.specs.declared.ending.Ending.TheVariants.{Played, Refused};
 
+use crate::counted::CountedReader;
 use crate::ending::Ending;
 use crate::fault::PlayFault;
 use crate::piece::Piece;
@@ -21,11 +26,16 @@ fn play_piece<P: Plays, R: Read, W: Write>(
     script: &mut Script,
     piece: &mut Piece,
     player: &mut P,
-    reader: &mut R,
+    reader: &mut CountedReader<R>,
     writer: &mut W,
 ) -> Result<Option<Ending>, PlayFault>
-    ensures { (first : P) (start : Option (List ℕ)) (read : List ℕ) → Stands P.replies P.frames first start read script.old.begun.items script.old.lines script.old.events player.old (W.contents writer.old)
-        → ReadsOn P.replies P.refuses P.frames first start read script.new.begun.items script.new.lines script.new.events player.new (R.remaining reader.old) (R.remaining reader.new) (W.contents writer.new) result }
+    ensures comes { (first : P) (start : Option (List ℕ)) (read : List ℕ) → Stands P.replies P.frames first start read script.old.begun.items script.old.lines script.old.events player.old (W.contents writer.old)
+        → ReadsOn P.replies P.refuses P.frames first start read script.new.begun.items script.new.lines script.new.events player.new
+        (R.remaining (reader_of reader.old)) (R.remaining (reader_of reader.new)) (W.contents writer.new) result }
+    ensures reads { reads_of reader.new ≡ counted (reads_of reader.old + 1) }
+    ensures long { IsErrOf result PlayFault.TooLong → ⊥ }
+    ensures refused { result ≡ Ok (Some (Refused NoMemory)) → P.wants }
+    ensures denied { IsErrOf result PlayFault.Memory → SomeWasRefused }
 {
     match piece.fill(reader) {
         Ok(0) => Ok(Some(script.end(player, writer)?)),
@@ -41,15 +51,23 @@ fn play_piece<P: Plays, R: Read, W: Write>(
 ///
 /// # Errors
 ///
-/// The first failure of the reader or the writer, an input that goes on after [`MAX_READS`] reads, or want of memory.
+/// The first failure of the reader or the writer, an input that goes on after [`MAX_READS`] reads, or want of memory: a request for
+/// some was refused.
 pub fn run_script<P: Plays, R: Read, W: Write>(
     alloc: Global,
     player: &mut P,
-    reader: &mut R,
+    reader: &mut CountedReader<R>,
     writer: &mut W,
 ) -> Result<Ending, PlayFault>
-    ensures ends { IfOk result (λ end. (read : List ℕ) × Consumes (R.remaining reader.old) (R.remaining reader.new) read × HasEnded P.replies P.refuses P.frames player.old (W.contents writer.old) read end player.new (W.contents writer.new)) }
-    ensures whole { result ≡ Ok Played → IsAtEnd (R.remaining reader.new) }
+    ensures ends { IfOk result (λ end. (read : List ℕ) × Consumes (R.remaining (reader_of reader.old)) (R.remaining (reader_of reader.new)) read
+        × HasEnded P.replies P.refuses P.frames player.old (W.contents writer.old) (IsAtEnd (R.remaining (reader_of reader.new))) read end
+        player.new (W.contents writer.new)) }
+    ensures whole { result ≡ Ok Played → IsAtEnd (R.remaining (reader_of reader.new)) }
+    // The input is read so often at most, and is too long only where it was.
+    ensures reads { reads_of reader.new ≤ reads_of reader.old + MAX_READS }
+    ensures long { IsErrOf result PlayFault.TooLong → counted (reads_of reader.old + MAX_READS) ≤ reads_of reader.new }
+    ensures refused { result ≡ Ok (Refused NoMemory) → P.wants }
+    ensures denied { IsErrOf result PlayFault.Memory → SomeWasRefused }
 {
     let mut script = Script::new(alloc);
     let mut piece = Piece::new(alloc)?;

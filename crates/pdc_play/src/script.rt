@@ -1,13 +1,17 @@
 //! A script, taken in pieces.
-ghost use Rattle.std.specs.Prelude.{◌≡◌, ◌++◌, ◌∷◌, [], ℕ, List, Option, IfOk};
+ghost use Rattle.std.specs.Prelude.{◌≡◌, ◌++◌, ◌∷◌, [], ℕ, List, Option, IfOk, IsErrOf, Ok, Some};
 ghost use Rattle.std.specs.Str.Lines.{strip_carriage_return};
+ghost use Rattle.pdc_history.specs.pdc_memory.Asking.{SomeWasRefused};
+ghost use Rattle.pdc_history.specs.declared.event_fault.Fault.TheVariants.{NoMemory};
 ghost use Rattle.pdc_play.specs.Run.{Comes, HasEnded, HasEndedEarly, Stands};
 ghost use Rattle.pdc_play.specs.Script.{events_of};
+ghost use Rattle.pdc_play.specs.declared.ending.Ending.TheVariants.{Refused};
 
 use crate::ending::Ending;
 use crate::fault::PlayFault;
 use crate::player::Plays;
 use crate::telling::play_text;
+use pdc_history::make_room;
 use std::alloc::Global;
 use std::io::Write;
 
@@ -61,9 +65,12 @@ impl Script {
         player: &mut P,
         writer: &mut W,
     ) -> Result<Option<Ending>, PlayFault>
-        ensures { (first : P) (start : Option (List ℕ)) (read : List ℕ) → Stands P.replies P.frames first start read self.old.begun.items self.old.lines self.old.events player.old (W.contents writer.old)
+        ensures comes { (first : P) (start : Option (List ℕ)) (read : List ℕ) → Stands P.replies P.frames first start read self.old.begun.items self.old.lines self.old.events player.old (W.contents writer.old)
             → Comes (Stands P.replies P.frames first start (read ++ 10 ∷ []) self.new.begun.items self.new.lines self.new.events player.new (W.contents writer.new))
             (λ end. (more : List ℕ) → HasEndedEarly P.replies P.refuses P.frames first start (read ++ 10 ∷ more) end player.new (W.contents writer.new)) result }
+        ensures refused { result ≡ Ok (Some (Refused NoMemory)) → P.wants }
+        ensures denied { IsErrOf result PlayFault.Memory → SomeWasRefused }
+        ensures long { IsErrOf result PlayFault.TooLong → ⊥ }
     {
         let text = without_return(&self.begun);
         let lines = self.lines.saturating_add(1);
@@ -85,14 +92,18 @@ impl Script {
         player: &mut P,
         writer: &mut W,
     ) -> Result<Option<Ending>, PlayFault>
-        ensures { (first : P) (start : Option (List ℕ)) (read : List ℕ) → Stands P.replies P.frames first start read self.old.begun.items self.old.lines self.old.events player.old (W.contents writer.old)
+        ensures comes { (first : P) (start : Option (List ℕ)) (read : List ℕ) → Stands P.replies P.frames first start read self.old.begun.items self.old.lines self.old.events player.old (W.contents writer.old)
             → Comes (Stands P.replies P.frames first start (read ++ byte ∷ []) self.new.begun.items self.new.lines self.new.events player.new (W.contents writer.new))
             (λ end. (more : List ℕ) → HasEndedEarly P.replies P.refuses P.frames first start (read ++ byte ∷ more) end player.new (W.contents writer.new)) result }
+        ensures refused { result ≡ Ok (Some (Refused NoMemory)) → P.wants }
+        ensures denied { IsErrOf result PlayFault.Memory → SomeWasRefused }
+        ensures long { IsErrOf result PlayFault.TooLong → ⊥ }
     {
         if byte == b'\n' {
             return self.end_line(player, writer);
         }
-        self.begun.push(byte)?;
+        make_room(&mut self.begun, 1)?;
+        self.begun.push_reserved(byte);
         Ok(None)
     }
 
@@ -103,9 +114,12 @@ impl Script {
         player: &mut P,
         writer: &mut W,
     ) -> Result<Option<Ending>, PlayFault>
-        ensures { (first : P) (start : Option (List ℕ)) (read : List ℕ) → Stands P.replies P.frames first start read self.old.begun.items self.old.lines self.old.events player.old (W.contents writer.old)
+        ensures comes { (first : P) (start : Option (List ℕ)) (read : List ℕ) → Stands P.replies P.frames first start read self.old.begun.items self.old.lines self.old.events player.old (W.contents writer.old)
             → Comes (Stands P.replies P.frames first start (read ++ piece.now) self.new.begun.items self.new.lines self.new.events player.new (W.contents writer.new))
             (λ end. HasEndedEarly P.replies P.refuses P.frames first start (read ++ piece.now) end player.new (W.contents writer.new)) result }
+        ensures refused { result ≡ Ok (Some (Refused NoMemory)) → P.wants }
+        ensures denied { IsErrOf result PlayFault.Memory → SomeWasRefused }
+        ensures long { IsErrOf result PlayFault.TooLong → ⊥ }
     {
         for byte in piece {
             if let Some(ending) = self.take(*byte, player, writer)? {
@@ -121,8 +135,11 @@ impl Script {
         player: &mut P,
         writer: &mut W,
     ) -> Result<Ending, PlayFault>
-        ensures { (first : P) (start : Option (List ℕ)) (read : List ℕ) → Stands P.replies P.frames first start read self.old.begun.items self.old.lines self.old.events player.old (W.contents writer.old)
-            → IfOk result (λ end. HasEnded P.replies P.refuses P.frames first start read end player.new (W.contents writer.new)) }
+        ensures comes { (first : P) (start : Option (List ℕ)) (read : List ℕ) → Stands P.replies P.frames first start read self.old.begun.items self.old.lines self.old.events player.old (W.contents writer.old)
+            → IfOk result (λ end. HasEnded P.replies P.refuses P.frames first start (Unit {0}) read end player.new (W.contents writer.new)) }
+        ensures refused { result ≡ Ok (Refused NoMemory) → P.wants }
+        ensures denied { IsErrOf result PlayFault.Memory → SomeWasRefused }
+        ensures long { IsErrOf result PlayFault.TooLong → ⊥ }
     {
         let lines = self.lines.saturating_add(1);
         let at = self.events.saturating_add(1);

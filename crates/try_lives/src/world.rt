@@ -3,7 +3,7 @@
 use crate::scenario::Three;
 use pdc_disk::MemoryDisk;
 use pdc_mark::DiskMark;
-use pdc_play::{Ending, PlayFault, Roles, play_over, play_settings, roles_of_three};
+use pdc_play::{CountedReader, Ending, PlayFault, Roles, play_over, play_settings, roles_of_three};
 use pdc_row::Output;
 use std::alloc::{AllocError, Global};
 use std::io;
@@ -30,7 +30,7 @@ fn with_status(
 /// Want of memory.
 pub fn over_memory(alloc: Global, three: Three, script: &[u8]) -> io::Result<Vec<u8>> {
     let Three { a, b, m } = three;
-    let mut reader = script;
+    let mut reader = CountedReader::new(script);
     let mut printed = Vec::new(alloc);
     let ending = play_settings(alloc, a, b, m, &mut reader, &mut printed);
     with_status(alloc, printed, ending)
@@ -71,7 +71,7 @@ pub fn over_disks(alloc: Global, three: Three, script: &[u8]) -> io::Result<Opti
         return Ok(None);
     };
     let marks = new_marks(&roles)?;
-    let mut reader = script;
+    let mut reader = CountedReader::new(script);
     let mut printed = Vec::new(alloc);
     let ending = play_over(alloc, roles, marks, &mut reader, &mut printed);
     Ok(Some(with_status(alloc, printed, ending)?))

@@ -3,7 +3,7 @@
 use super::player::Answers;
 use super::same::{is, same};
 use pdc_history::{Fault, Premise};
-use pdc_play::{PlayFault, run_script, tell_unbegun};
+use pdc_play::{CountedReader, PlayFault, run_script, tell_unbegun};
 use std::io;
 use std::io::{ErrorKind, Read, Write};
 use std::process::Abort;
@@ -90,15 +90,12 @@ impl Read for FailsAfter<'_> {
     }
 }
 
-/// Gives one LF at each read, without end. It counts its reads.
+/// Gives one LF at each read, without end.
 #[derive(Drop)]
-struct Endless {
-    reads: u32,
-}
+struct Endless;
 
 impl Read for Endless {
     fn read(&mut self, buf: &mut [u8]) -> io::Result<usize> {
-        self.reads = self.reads.saturating_add(1);
         if buf.is_empty() {
             return Ok(0);
         }
@@ -128,7 +125,7 @@ fn play(rt: &(impl Abort + AllocGlobal), text: &str, wanted: &str, status: &str)
     let played = run_script(
         rt.alloc(),
         &mut Answers,
-        &mut script.as_slice(),
+        &mut CountedReader::new(script.as_slice()),
         &mut written,
     );
     let Ok(ending) = played else {
@@ -155,10 +152,10 @@ fn scripts(rt: HostRuntime) {
 /// What stands before a reader that fails is played, byte by byte.
 #[test]
 fn a_reader_that_fails(rt: HostRuntime) {
-    let mut reader = FailsAfter {
+    let mut reader = CountedReader::new(FailsAfter {
         bytes: b"publish B\r\nto A 2\nstop".as_slice(),
         interrupted: false,
-    };
+    });
     let mut written = Vec::new(rt.alloc());
     let outcome = run_script(rt.alloc(), &mut Answers, &mut reader, &mut written);
     is!(&rt; written.as_slice(), b"B none\nA B4 Late\n".as_slice());
@@ -168,15 +165,15 @@ fn a_reader_that_fails(rt: HostRuntime) {
 #[test]
 fn an_input_without_end(rt: HostRuntime) {
     let mut written = Vec::new(rt.alloc());
-    let mut reader = Endless { reads: 0 };
+    let mut reader = CountedReader::new(Endless);
     let outcome = run_script(rt.alloc(), &mut Answers, &mut reader, &mut written);
     is!(&rt; matches!(outcome, Err(PlayFault::TooLong)), true);
-    is!(&rt; reader.reads, 1_000_000);
+    is!(&rt; reader.reads(), 1_000_000);
 }
 
 #[test]
 fn a_writer_that_fails(rt: HostRuntime) {
-    let mut script = b"stop A\n".as_slice();
+    let mut script = CountedReader::new(b"stop A\n".as_slice());
     let outcome = run_script(rt.alloc(), &mut Answers, &mut script, &mut Full);
     is!(&rt; matches!(outcome, Err(PlayFault::Write(_))), true);
 }
@@ -185,7 +182,7 @@ fn a_writer_that_fails(rt: HostRuntime) {
 fn a_world_that_does_not_begin(rt: HostRuntime) {
     let mut written = Vec::new(rt.alloc());
     let fault = Fault::PremiseBroken(Premise::OneTable);
-    let Ok(ending) = tell_unbegun(rt.alloc(), fault, &mut written) else {
+    let Ok(ending) = tell_unbegun(fault, &mut written) else {
         panic!(&rt; "an ending");
     };
     is!(&rt; written.as_slice(), b"X1 P5 at 0\n".as_slice());

@@ -60,6 +60,8 @@ impl Plays for Answers {
 
     ghost refuses = { λ _ _ _. ⊤ };
 
+    ghost wants = { ⊤ };
+
     ghost frames = { λ _ _. Some (170 ∷ 2 ∷ []) };
 
     fn play_event(&mut self, event: &Event) -> Result<Reply, Fault> {

@@ -1,4 +1,4 @@
 use Rattle.pdc_play.proofs.script.Script.take.Goals as goal
 
-pub returns-then-byte-eq10 : goal.returns-then-byte-eq10
-returns-then-byte-eq10 g c = rw c.if-byte-eq10.true c.end_line.ensures
+pub returns-then-byte-eq10-clause-comes : goal.returns-then-byte-eq10-clause-comes
+returns-then-byte-eq10-clause-comes g c = rw c.if-byte-eq10.true c.end_line.ensures.comes
