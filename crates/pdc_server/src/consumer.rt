@@ -135,8 +135,12 @@ impl<N: Naming> Consumer<N> {
         requires { count ≤ vec_len self.old.piece }
         ensures id { id_in self.new ≡ id_in self.old }
         ensures heard { heard_in self.new ≡ has_bytes (take count self.old.piece.items) }
-        ensures ok { OnOk result (IsMade None (dated_at N.stream soc) (id_in self.old) (take count self.old.piece.items) (standing_in self.old) (standing_in self.new) self.new.out.items) }
-        ensures err { IfErr result (λ ended. IsMade (Some ended) (dated_at N.stream soc) (id_in self.old) (take count self.old.piece.items) (standing_in self.old) (standing_in self.new) self.new.out.items) }
+        ensures ok { OnOk result (IsMade None (dated_at N.stream soc) (id_in self.old)
+            (take count self.old.piece.items) (standing_in self.old) (standing_in self.new)
+            self.new.out.items) }
+        ensures err { IfErr result (λ ended. IsMade (Some ended) (dated_at N.stream soc)
+            (id_in self.old) (take count self.old.piece.items) (standing_in self.old)
+            (standing_in self.new) self.new.out.items) }
         ensures refused { IsErrOf result Ended.NoMemory → SomeWasRefused }
         ensures denied { (session_in self.old).ended ≡ None → IsErrOf result (Ended.Session SessionFault.NoMemory) → SomeWasRefused }
     {
@@ -177,8 +181,10 @@ impl<N: Naming> Consumer<N> {
     ) -> Result<(), Ended>
         ensures id { id_in self.new ≡ id_in self.old }
         ensures stream { id_in self.old ≡ N.stream.id }
-        ensures ok { OnOk result (HasTurned S.remaining S.contents (dated_at N.stream soc) (id_in self.old) (standing_in self.old) (standing_in self.new) stream.old stream.new) }
-        ensures ended { IfErr result (HasEnded S.remaining S.contents (dated_at N.stream soc) (id_in self.old) (standing_in self.old) (standing_in self.new) stream.old stream.new) }
+        ensures ok { OnOk result (HasTurned S.remaining S.contents (dated_at N.stream soc)
+            (id_in self.old) (standing_in self.old) (standing_in self.new) stream.old stream.new) }
+        ensures ended { IfErr result (HasEnded S.remaining S.contents (dated_at N.stream soc)
+            (id_in self.old) (standing_in self.old) (standing_in self.new) stream.old stream.new) }
         ensures refused { IsErrOf result Ended.NoMemory → SomeWasRefused }
         ensures denied { (session_in self.old).ended ≡ None → IsErrOf result (Ended.Session SessionFault.NoMemory) → SomeWasRefused }
     {

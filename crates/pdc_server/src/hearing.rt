@@ -61,8 +61,11 @@ fn hear<N: Naming>(
     requires header { length source.now.header.now ≤ MAX_TEXT }
     requires layout { ∥ IsLayout N.stream source.now.stamp source.now.layout.now ∥₁ }
     ensures id { session.new.id ≡ session.old.id }
-    ensures ok { OnOk result (IsAnswered (dated_at N.stream source.now.soc) source.now.stamp source.now.header.now piece.now session.old session.new out.old.items out.new.items) }
-    ensures failed { IfErr result (λ fault. HasFailed (dated_at N.stream source.now.soc) source.now.stamp source.now.header.now piece.now session.old session.new out.old.items out.new.items fault) }
+    ensures ok { OnOk result (IsAnswered (dated_at N.stream source.now.soc) source.now.stamp
+        source.now.header.now piece.now session.old session.new out.old.items out.new.items) }
+    ensures failed { IfErr result (λ fault. HasFailed (dated_at N.stream source.now.soc)
+        source.now.stamp source.now.header.now piece.now session.old session.new out.old.items
+        out.new.items fault) }
     ensures refused { session.old.ended ≡ None → IsErrOf result SessionFault.NoMemory → SomeWasRefused }
 {
     let serving = Serving {
@@ -89,8 +92,12 @@ pub fn answer<N: Naming, R: Wait>(
 ) -> Result<Option<Stamp>, Ended>
     requires { length question.now.piece.now ≤ PIECE_LEN }
     ensures id { session.new.id ≡ session.old.id }
-    ensures ok { IfOk result (λ stamp. HasHeard (dated_at N.stream question.now.soc) stamp question.now.id.value question.now.piece.now session.old session.new out.old.items out.new.items) }
-    ensures unheard { IfErr result (λ ended. IsUnheard ended (dated_at N.stream question.now.soc) question.now.id.value question.now.piece.now session.old session.new out.old.items out.new.items) }
+    ensures ok { IfOk result (λ stamp. HasHeard (dated_at N.stream question.now.soc) stamp
+        question.now.id.value question.now.piece.now session.old session.new out.old.items
+        out.new.items) }
+    ensures unheard { IfErr result
+        (λ ended. IsUnheard ended (dated_at N.stream question.now.soc) question.now.id.value
+        question.now.piece.now session.old session.new out.old.items out.new.items) }
     ensures refused { IsErrOf result Ended.NoMemory → SomeWasRefused }
     ensures denied { session.old.ended ≡ None → IsErrOf result (Ended.Session SessionFault.NoMemory) → SomeWasRefused }
 {
@@ -131,7 +138,9 @@ pub fn append_data<N: Naming, R: Wait>(
 ) -> Result<Place, Ended>
     ensures off { session.now.told.on ≡ false → IfOk result (λ reached. (reached ≡ place) × (out.new.items ≡ out.old.items)) }
     ensures on { session.now.told.on ≡ true → IfOk result (λ reached. IsGiven N.stream place out.old.items reached out.new.items) }
-    ensures given { session.now.told.on ≡ true → IfOk result (λ reached. OfFound (λ memory. IsGivenOf memory place is_fresh out.old.items reached out.new.items)) }
+    ensures given { session.now.told.on ≡ true
+        → IfOk result (λ reached. OfFound
+        (λ memory. IsGivenOf memory place is_fresh out.old.items reached out.new.items)) }
     ensures err { OnErr result (out.new.items ≡ out.old.items) }
     ensures wanted { IfErr result (λ ended. (ended ≡ Ended.NoMemory) × (session.now.told.on ≡ true)) }
     ensures refused { OnErr result SomeWasRefused }

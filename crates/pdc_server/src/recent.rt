@@ -117,7 +117,8 @@ impl<N: Naming> Recent<N> {
         out: &mut B,
     ) -> Result<Place, AllocError>
         ensures ok { IfOk result (λ now. IsGiven N.stream place (B.content out.old) now (B.content out.new)) }
-        ensures given { IfOk result (λ now. OfFound (λ memory. IsGivenOf memory place is_fresh (B.content out.old) now (B.content out.new))) }
+        ensures given { IfOk result (λ now. OfFound
+            (λ memory. IsGivenOf memory place is_fresh (B.content out.old) now (B.content out.new))) }
         ensures err { OnErr result (B.content out.new ≡ B.content out.old) }
         ensures refused { OnErr result (ForSome (B.refused out.new)) }
     {
@@ -151,8 +152,10 @@ impl<N: Naming> Recent<N> {
     /// [`AllocError`] where `out` has no room for it, and its request for it was refused. `out` is unchanged then.
     #[tactic(auto, unfolding(crate::specs::Remembering::WasFound))]
     pub fn layout<B: Buffer, R: Wait>(&self, rt: &R, out: &mut B) -> Result<Stamp, AllocError>
-        ensures kept { IfOk result (λ stamp. OfFound (λ memory. (stamp ≡ memory.stamp) × (B.content out.new ≡ B.content out.old ++ memory.layout))) }
-        ensures ok { IfOk result (λ stamp. (frame : List ℕ) × ∥ IsLayout N.stream stamp frame ∥₁ × (B.content out.new ≡ B.content out.old ++ frame)) }
+        ensures kept { IfOk result (λ stamp. OfFound (λ memory. (stamp ≡ memory.stamp)
+            × (B.content out.new ≡ B.content out.old ++ memory.layout))) }
+        ensures ok { IfOk result (λ stamp. (frame : List ℕ) × ∥ IsLayout N.stream stamp frame ∥₁
+            × (B.content out.new ≡ B.content out.old ++ frame)) }
         ensures err { OnErr result (B.content out.new ≡ B.content out.old) }
         ensures refused { OnErr result (ForSome (B.refused out.new)) }
     {

@@ -46,7 +46,8 @@ impl<N: Naming> Remembered<N> {
     pub fn new(alloc: Global, stamp: Stamp, layout: Vec<u8>) -> Result<Remembered<N>, AllocError>
         requires { ∥ IsLayout N.stream stamp layout.items ∥₁ }
         ensures refused { OnErr result (WasRefused KEPT_FRAMES) }
-        ensures kept { IfOk result (λ remembered. (remembered.frames.frames ≡ []) × (remembered.stamp ≡ stamp) × (remembered.layout ≡ layout) × (remembered.closed ≡ false)) }
+        ensures kept { IfOk result (λ remembered. (remembered.frames.frames ≡ [])
+            × (remembered.stamp ≡ stamp) × (remembered.layout ≡ layout) × (remembered.closed ≡ false)) }
     {
         Ok(Remembered {
             frames: Frames::new(alloc)?,
@@ -72,8 +73,10 @@ impl<N: Naming> Remembered<N> {
     /// Keeps a data frame of this instant, which is of the layout in force, as `pdc_session`'s `Frames` does.
     pub fn push(&mut self, alloc: Global, instant: u64, bytes: &[u8]) -> Result<(), AllocError>
         requires { ∥ IsData N.stream self.old.stamp instant bytes.now ∥₁ }
-        ensures kept { OnOk result (memory_of self.new ≡ record (memory_of self.old) { frames = kept_with self.old.frames instant bytes.now }) }
-        ensures later { is_old self.old.frames.greatest instant ≡ false → OnOk result (self.new.frames ≡ pushed self.old.frames instant bytes.now) }
+        ensures kept { OnOk result (memory_of self.new
+            ≡ record (memory_of self.old) { frames = kept_with self.old.frames instant bytes.now }) }
+        ensures later { is_old self.old.frames.greatest instant ≡ false
+            → OnOk result (self.new.frames ≡ pushed self.old.frames instant bytes.now) }
         ensures old { is_old self.old.frames.greatest instant ≡ true → OnOk result (self.new.frames ≡ self.old.frames) }
         ensures err { OnErr result (self.new ≡ self.old) }
         ensures refused { OnErr result (WasRefused (length bytes.now)) }
@@ -178,7 +181,9 @@ impl<N: Naming> Remembered<N> {
     ) -> Result<Place, AllocError>
         ensures ok { IfOk result (λ now. IsGiven N.stream place (B.content out.old) now (B.content out.new)) }
         ensures given { IfOk result (λ now. IsGivenOf (memory_of self.now) place is_fresh (B.content out.old) now (B.content out.new)) }
-        ensures all { takes place.seen self.now.stamp ≡ true → OnOk result (B.content out.new ≡ B.content out.old ++ bytes_of (above place.got self.now.frames.frames)) }
+        ensures all { takes place.seen self.now.stamp ≡ true
+            → OnOk result (B.content out.new ≡ B.content out.old
+            ++ bytes_of (above place.got self.now.frames.frames)) }
         ensures fresh { is_fresh ≡ true → IfOk result (λ now. now.seen ≡ Layout self.now.stamp) }
         ensures err { OnErr result (B.content out.new ≡ B.content out.old) }
         ensures refused { OnErr result (ForSome (B.refused out.new)) }
@@ -195,7 +200,8 @@ impl<N: Naming> Remembered<N> {
     /// Keeps the frame of the layout in force, in place of the one before.
     fn repeat_layout(&mut self, layout: Vec<u8>)
         requires { ∥ IsLayout N.stream self.old.stamp layout.items ∥₁ }
-        ensures { (self.new.frames ≡ self.old.frames) × (self.new.stamp ≡ self.old.stamp) × (self.new.layout ≡ layout) × (self.new.closed ≡ self.old.closed)
+        ensures { (self.new.frames ≡ self.old.frames) × (self.new.stamp ≡ self.old.stamp)
+            × (self.new.layout ≡ layout) × (self.new.closed ≡ self.old.closed)
             × (self.new.older ≡ self.old.older) × (self.new.older_stamp ≡ self.old.older_stamp) }
     {
         self.layout = layout;
@@ -205,7 +211,9 @@ impl<N: Naming> Remembered<N> {
     fn change_layout(&mut self, none: Frames, stamp: Stamp, layout: Vec<u8>)
         requires layout { ∥ IsLayout N.stream stamp layout.items ∥₁ }
         requires none { none ≡ no_frames }
-        ensures { (self.new.frames ≡ none) × (self.new.older ≡ self.old.frames) × (self.new.older_stamp ≡ self.old.stamp) × (self.new.stamp ≡ stamp) × (self.new.layout ≡ layout)
+        ensures { (self.new.frames ≡ none) × (self.new.older ≡ self.old.frames)
+            × (self.new.older_stamp ≡ self.old.stamp) × (self.new.stamp ≡ stamp)
+            × (self.new.layout ≡ layout)
             × (self.new.closed ≡ self.old.closed) }
     {
         self.older = mem::replace(&mut self.frames, none);
@@ -244,7 +252,8 @@ impl<N: Naming> Remembered<N> {
 
     /// Appends the layout frame, and answers its stamp.
     pub fn layout<B: Buffer>(&self, out: &mut B) -> Result<Stamp, AllocError>
-        ensures frame { IfOk result (λ stamp. (frame : List ℕ) × ∥ IsLayout N.stream stamp frame ∥₁ × (B.content out.new ≡ B.content out.old ++ frame)) }
+        ensures frame { IfOk result (λ stamp. (frame : List ℕ) × ∥ IsLayout N.stream stamp frame ∥₁
+            × (B.content out.new ≡ B.content out.old ++ frame)) }
         ensures ok { OnOk result (B.content out.new ≡ B.content out.old ++ self.now.layout.items) }
         ensures stamp { IfOk result (λ stamp. stamp ≡ self.now.stamp) }
         ensures err { OnErr result (B.content out.new ≡ B.content out.old) }

@@ -92,7 +92,10 @@ fn send_words<K: Sink>(
 ) -> Result<bool, SimulationFault>
     requires stands { Stands (run_of run.now.simulated.now run.now.first) number sender.old.pmu }
     requires words { AreWords run.now.simulated.now.is_grid number words.now }
-    ensures ok { OnOk result ((config : List ℕ) → TakesMore K.took sink.old sink.new (frames_of (run_of run.now.simulated.now run.now.first) config (data_at (run_of run.now.simulated.now run.now.first) number words.now))) }
+    ensures ok { OnOk result ((config : List ℕ)
+        → TakesMore K.took sink.old sink.new
+        (frames_of (run_of run.now.simulated.now run.now.first) config
+        (data_at (run_of run.now.simulated.now run.now.first) number words.now))) }
     ensures stands { OnOk result (Stands (run_of run.now.simulated.now run.now.first) (number + 1) sender.new.pmu) }
     ensures none { OnErr result (TakesMore K.took sink.old sink.new []) }
     ensures err { IfErr result (λ fault. IsCause fault (K.failures_of sink.old) (K.failures_of sink.new)) }

@@ -137,7 +137,8 @@ impl Pmu {
         ensures err { OnErr result ((B.content out.new ≡ B.content out.old) × (self.new ≡ self.old)) }
         ensures fault { OnErr result (IsErrOf result PmuFault.NoMemory) }
         ensures room { length (B.content out.old) + (length text.now + OVERHEAD) ≤ B.capacity out.old → IsOk result }
-        ensures in_place { length (B.content out.old) + (length text.now + OVERHEAD) ≤ B.capacity out.old → B.capacity out.new ≡ B.capacity out.old }
+        ensures in_place { length (B.content out.old) + (length text.now + OVERHEAD)
+            ≤ B.capacity out.old → B.capacity out.new ≡ B.capacity out.old }
     {
         match write_header(self.id, soc, text, out) {
             Ok(()) => {
@@ -161,13 +162,18 @@ impl Pmu {
         out: &mut B,
     ) -> Result<(), PmuFault>
         ensures ok { OnOk result (B.content out.new ≡ B.content out.old ++ config_of self.old soc (fields_of_view section.now)) }
-        ensures frame { OnOk result (IsFrame (config_of self.old soc (fields_of_view section.now)) (config_frame_of Cfg2 self.old.id soc (next_config self.old (fields_of_view section.now)))) }
-        ensures config { OnOk result (IsConfig (payload_of (next_config self.old (fields_of_view section.now))) (next_config self.old (fields_of_view section.now))) }
+        ensures frame { OnOk result (IsFrame (config_of self.old soc (fields_of_view section.now))
+            (config_frame_of Cfg2 self.old.id soc (next_config self.old (fields_of_view section.now)))) }
+        ensures config { OnOk result (IsConfig
+            (payload_of (next_config self.old (fields_of_view section.now)))
+            (next_config self.old (fields_of_view section.now))) }
         ensures sent { OnOk result (self.new ≡ after_config self.old (fields_of_view section.now)) }
         ensures err { OnErr result ((B.content out.new ≡ B.content out.old) × (self.new ≡ self.old)) }
         ensures used_up { self.old.count ≡ MAX_COUNT → IsErrOf result PmuFault.CountsUsedUp }
         ensures fault { self.old.count < MAX_COUNT → OnErr result (IsErrOf result PmuFault.NoMemory) }
-        ensures room { self.old.count < MAX_COUNT → length (B.content out.old) + length (config_of self.old soc (fields_of_view section.now)) ≤ B.capacity out.old → IsOk result }
+        ensures room { self.old.count < MAX_COUNT
+            → length (B.content out.old) + length (config_of self.old soc (fields_of_view section.now))
+            ≤ B.capacity out.old → IsOk result }
     {
         if self.count == MAX_COUNT {
             return Err(PmuFault::CountsUsedUp);
@@ -203,7 +209,9 @@ impl Pmu {
         ensures err { OnErr result ((B.content out.new ≡ B.content out.old) × (self.new ≡ self.old)) }
         ensures not_later { is_later self.old.last instant ≡ false → IsErrOf result PmuFault.NotLater }
         ensures fault { is_later self.old.last instant ≡ true → OnErr result (IsErrOf result PmuFault.NoMemory) }
-        ensures room { is_later self.old.last instant ≡ true → length (B.content out.old) + length (data_of self.old instant words.now) ≤ B.capacity out.old → IsOk result }
+        ensures room { is_later self.old.last instant ≡ true
+            → length (B.content out.old) + length (data_of self.old instant words.now)
+            ≤ B.capacity out.old → IsOk result }
     {
         if !self.is_later(instant) {
             return Err(PmuFault::NotLater);
@@ -244,10 +252,15 @@ impl Pmu {
     ) -> Result<(), AllocError>
         requires { self.now.count < MAX_COUNT }
         ensures ok { OnOk result (B.content out.new ≡ B.content out.old ++ config_of self.now soc (fields_of_view section.now)) }
-        ensures frame { IsFrame (config_of self.now soc (fields_of_view section.now)) (config_frame_of Cfg2 self.now.id soc (next_config self.now (fields_of_view section.now))) }
-        ensures config { OnOk result (IsConfig (payload_of (next_config self.now (fields_of_view section.now))) (next_config self.now (fields_of_view section.now))) }
+        ensures frame { IsFrame (config_of self.now soc (fields_of_view section.now))
+            (config_frame_of Cfg2 self.now.id soc (next_config self.now (fields_of_view section.now))) }
+        ensures config { OnOk result (IsConfig
+            (payload_of (next_config self.now (fields_of_view section.now)))
+            (next_config self.now (fields_of_view section.now))) }
         ensures err { OnErr result (B.content out.new ≡ B.content out.old) }
-        ensures room { length (B.content out.old) + length (config_of self.now soc (fields_of_view section.now)) ≤ B.capacity out.old → IsOk result }
+        ensures room { length (B.content out.old)
+            + length (config_of self.now soc (fields_of_view section.now)) ≤ B.capacity out.old
+            → IsOk result }
     {
         let next = renamed(section, self.id.value, self.count + 1);
         let config = self.config_of(&next);

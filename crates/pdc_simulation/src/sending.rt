@@ -75,8 +75,11 @@ fn send_frames<K: Sink, R: Clock>(
     sink: &mut K,
 ) -> Result<(), SimulationFault>
     requires stands { Stands (run_of run.now.simulated.now run.now.first) 0 sender.old.pmu }
-    ensures ok { OnOk result (HasTaken K.took (run_of run.now.simulated.now run.now.first) config.now (IsUpTo (run_of run.now.simulated.now run.now.first) run.now.simulated.now.count) sink.old sink.new) }
-    ensures cut { OnErr result (HasTaken K.took (run_of run.now.simulated.now run.now.first) config.now (IsFirstPart (run_of run.now.simulated.now run.now.first)) sink.old sink.new) }
+    ensures ok { OnOk result (HasTaken K.took (run_of run.now.simulated.now run.now.first) config.now
+        (IsUpTo (run_of run.now.simulated.now run.now.first) run.now.simulated.now.count) sink.old
+        sink.new) }
+    ensures cut { OnErr result (HasTaken K.took (run_of run.now.simulated.now run.now.first) config.now
+        (IsFirstPart (run_of run.now.simulated.now run.now.first)) sink.old sink.new) }
     ensures err { IfErr result (λ fault. IsCause fault (K.failures_of sink.old) (K.failures_of sink.new)) }
     ensures more { K.failures_of sink.old ≤ K.failures_of sink.new }
 {
@@ -109,8 +112,10 @@ fn send_all<K: Sink, R: Clock>(
     sink: &mut K,
 ) -> Result<(), SimulationFault>
     requires stands { Stands (run_of run.now.simulated.now run.now.first) 0 sender.old.pmu }
-    ensures ok { OnOk result (HasTaken K.took (run_of run.now.simulated.now run.now.first) config.now (IsAll (run_of run.now.simulated.now run.now.first)) sink.old sink.new) }
-    ensures cut { OnErr result (HasTaken K.took (run_of run.now.simulated.now run.now.first) config.now (IsFront (run_of run.now.simulated.now run.now.first)) sink.old sink.new) }
+    ensures ok { OnOk result (HasTaken K.took (run_of run.now.simulated.now run.now.first) config.now
+        (IsAll (run_of run.now.simulated.now run.now.first)) sink.old sink.new) }
+    ensures cut { OnErr result (HasTaken K.took (run_of run.now.simulated.now run.now.first) config.now
+        (IsFront (run_of run.now.simulated.now run.now.first)) sink.old sink.new) }
     ensures err { IfErr result (λ fault. IsCause fault (K.failures_of sink.old) (K.failures_of sink.new)) }
 {
     match hand(sink, config) {
@@ -161,7 +166,8 @@ pub fn simulate_into<K: Sink, R: Clock>(
     sink: &mut K,
 ) -> Result<(), SimulationFault>
     ensures ok { OnOk result ((first : ℕ) × IsSimulated K.took (run_of simulated.now first) sink.old sink.new) }
-    ensures err { IfErr result (λ fault. (first : ℕ) × IsStopped K.took K.failures_of (run_of simulated.now first) sink.old sink.new fault) }
+    ensures err { IfErr result (λ fault. (first : ℕ)
+        × IsStopped K.took K.failures_of (run_of simulated.now first) sink.old sink.new fault) }
 {
     match nanoseconds_now(rt) {
         Ok(now) => simulate_from(
