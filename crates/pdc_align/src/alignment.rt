@@ -1,6 +1,7 @@
 //! The alignment of a concentrator: what it keeps, what is looked up in it, and its steps, each said of what it keeps; those of a tick
 //! stand in `ticking.rt`. What they mean for a life stands in `life_calls.rt`.
-ghost use Rattle.std.specs.Prelude.{◌≡◌, ◌<◌, List, IfOk, IfSome, false, length, map, option_map, OnErr};
+ghost use Rattle.std.specs.Prelude.{◌≡◌, ◌<◌, List, IfOk, IfSome, false, length, map, option_map};
+ghost use Rattle.std.specs.Prelude.{OnErr};
 ghost use Rattle.pdc_memory.specs.Asking.{SomeWasRefused};
 ghost use Rattle.std.specs.List.{All};
 ghost use Rattle.pdc_arrival.specs.pdc_cfg.Section.{fields_of_view};
@@ -17,7 +18,8 @@ ghost use Rattle.pdc_align.specs.State.{shape_in};
 ghost use Rattle.pdc_align.specs.Align.{KeepsSizes, StandsFor, Unchanged};
 ghost use Rattle.pdc_align.specs.Popped.{popped_after};
 ghost use Rattle.pdc_align.specs.Slot.{count_in};
-ghost use Rattle.pdc_align.specs.Calls.{column_in, after_hold, after_pop_of, first_content, first_of_plan, row_layout_in, waiting_in};
+ghost use Rattle.pdc_align.specs.Calls.{column_in, after_hold, after_pop_of, first_content};
+ghost use Rattle.pdc_align.specs.Calls.{first_of_plan, row_layout_in, waiting_in};
 
 use crate::{Column, Plan, columns};
 use pdc_arrival::{ColumnSection, MAX_PMUS, SectionView, Shape, WaitKind};
@@ -83,7 +85,8 @@ impl<T: Table> Model for Alignment<T> {
 
 /// An empty table, in which an instant waits for both streams where there are two lanes.
 fn new_table<T: Table>(alloc: Global, plan: Plan, floor: u64) -> Result<T, AllocError>
-    ensures content { IfOk result (λ t. T.content t ≡ first_content plan.window plan.columns plan.lanes floor) }
+    ensures content { IfOk result (λ t. T.content t ≡
+        first_content plan.window plan.columns plan.lanes floor) }
     ensures well_formed { IfOk result (λ t. IsContent (T.content t)) }
     ensures disagreements { IfOk result (λ t. T.disagreements t ≡ 0) }
     ensures refused { OnErr result SomeWasRefused }
@@ -101,7 +104,8 @@ impl<T: Table> Alignment<T> {
     pub fn held(&self, column: usize) -> Option<SectionView<'_>>
         requires { column < length self.now.state.columns }
         ensures state { option_map fields_of_view result ≡ (column_in self.now.state column).held }
-        ensures life { (g : Given) (E : List Entry) → StandsFor g E self.now.state → option_map fields_of_view result ≡ held_section g E column }
+        ensures life { (g : Given) (E : List Entry) → StandsFor g E self.now.state →
+            option_map fields_of_view result ≡ held_section g E column }
     {
         self.columns.item(column).held()
     }
@@ -109,8 +113,10 @@ impl<T: Table> Alignment<T> {
     /// The section in force for the column.
     pub fn in_force(&self, column: usize) -> Option<SectionView<'_>>
         requires { column < length self.now.state.columns }
-        ensures state { option_map fields_of_view result ≡ (column_in self.now.state column).in_force }
-        ensures life { (g : Given) (E : List Entry) → StandsFor g E self.now.state → option_map fields_of_view result ≡ section_in_force g E column }
+        ensures state { option_map fields_of_view result ≡
+            (column_in self.now.state column).in_force }
+        ensures life { (g : Given) (E : List Entry) → StandsFor g E self.now.state →
+            option_map fields_of_view result ≡ section_in_force g E column }
     {
         self.columns.item(column).in_force()
     }
@@ -126,7 +132,8 @@ impl<T: Table> Alignment<T> {
     /// The shape of the section in force for the column. It is looked up without the section.
     pub fn shape_in_force(&self, column: usize) -> Option<Shape>
         requires { column < length self.now.state.columns }
-        ensures { (g : Given) (E : List Entry) → StandsFor g E self.now.state → result ≡ shape_in (section_in_force g E column) }
+        ensures { (g : Given) (E : List Entry) → StandsFor g E self.now.state →
+            result ≡ shape_in (section_in_force g E column) }
     {
         self.columns.item(column).shape()
     }
@@ -203,7 +210,8 @@ impl<T: Table> Alignment<T> {
 
     /// Holds each section in its column.
     pub(crate) fn keep(&mut self, sections: &[ColumnSection<'_>])
-        requires { All (λ (s : ColumnSectionData). s.column < length self.old.state.columns) sections.now }
+        requires { All (λ (s : ColumnSectionData). s.column < length self.old.state.columns)
+            sections.now }
         ensures state { self.new.state ≡ after_hold self.old.state (map section_part sections.now) }
         ensures unchanged { Unchanged self.old self.new }
     {
@@ -219,7 +227,8 @@ impl<T: Table> Alignment<T> {
         ensures memory { self.new.memory ≡ self.old.memory }
         ensures disagreements { self.new.disagreements ≡ self.old.disagreements }
         ensures rises { IfSome result (λ row. self.old.popped < row.instant) }
-        ensures popped { self.new.popped ≡ popped_after (option_map row_view result) self.old.popped }
+        ensures popped { self.new.popped ≡
+            popped_after (option_map row_view result) self.old.popped }
     {
         let row = self.table.pop_due();
         if let Some(row) = &row {
@@ -236,8 +245,10 @@ impl<T: Table> Alignment<T> {
         ensures sizes { KeepsSizes self.old.state self.new.state }
         ensures memory { self.new.memory ≡ self.old.memory }
         ensures disagreements { self.new.disagreements ≡ self.old.disagreements }
-        ensures rises { IfSome (popped_into result row.new) (λ (popped : RowView). self.old.popped < popped.instant) }
-        ensures popped { self.new.popped ≡ popped_after (popped_into result row.new) self.old.popped }
+        ensures rises { IfSome (popped_into result row.new)
+            (λ (popped : RowView). self.old.popped < popped.instant) }
+        ensures popped { self.new.popped ≡
+            popped_after (popped_into result row.new) self.old.popped }
     {
         let is_some = self.table.pop_into(row);
         if is_some {

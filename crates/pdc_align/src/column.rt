@@ -41,7 +41,8 @@ impl Model for Column {
 impl Column {
     /// A column for which nothing came; up to its opening count all is cleared. It takes the memory for its sections.
     pub(crate) fn new(alloc: Global, opening: u16) -> Result<Column, AllocError>
-        ensures column { IfOk result (λ column. column ≡ record { opening = opening; cleared = opening; held = None; in_force = None }) }
+        ensures column { IfOk result (λ column. column ≡
+            record { opening = opening; cleared = opening; held = None; in_force = None }) }
         ensures refused { OnErr result SomeWasRefused }
     {
         Ok(Column {

@@ -1,5 +1,6 @@
 //! All columns of an alignment, one call for each thing that is asked of them.
-ghost use Rattle.std.specs.Prelude.{◌≡◌, ℕ, ◌+◌, ◌-◌, ◌<◌, ◌≤◌, ◌++◌, [], ◌∷◌, if◌then◌else◌, IfOk, length, map, replicate, OnErr};
+ghost use Rattle.std.specs.Prelude.{◌≡◌, ℕ, ◌+◌, ◌-◌, ◌<◌, ◌≤◌, ◌++◌, [], ◌∷◌, if◌then◌else◌};
+ghost use Rattle.std.specs.Prelude.{IfOk, length, map, replicate, OnErr};
 ghost use Rattle.pdc_memory.specs.Asking.{SomeWasRefused};
 ghost use Rattle.std.specs.List.{All, list_any, range_with_len};
 ghost use Rattle.pdc_arrival.specs.pdc_life.Answer.{greatest_count};
@@ -7,7 +8,8 @@ ghost use Rattle.pdc_arrival.specs.Views.{section_part};
 ghost use Rattle.pdc_arrival.specs.declared.arrival.ColumnSection.{ColumnSection as ColumnSectionData};
 ghost use Rattle.pdc_align.specs.State.{shape_in};
 ghost use Rattle.pdc_align.specs.Align.{ColumnState};
-ghost use Rattle.pdc_align.specs.Calls.{cleared_from, is_ready_in, new_column, ready_from, with_adoption, with_sections};
+ghost use Rattle.pdc_align.specs.Calls.{cleared_from, is_ready_in, new_column, ready_from};
+ghost use Rattle.pdc_align.specs.Calls.{with_adoption, with_sections};
 
 use crate::Column;
 use arrayvec::ArrayVec;
@@ -22,7 +24,8 @@ pub fn new_columns(
     counts: &[u16; MAX_PMUS],
 ) -> Result<Held<Column>, AllocError>
     requires { count ≤ MAX_PMUS }
-    ensures items { IfOk result (λ columns. columns.items ≡ map (new_column counts.now) (range_with_len 0 count)) }
+    ensures items { IfOk result (λ columns. columns.items ≡
+        map (new_column counts.now) (range_with_len 0 count)) }
     ensures refused { OnErr result SomeWasRefused }
 {
     let mut columns = Held::with_capacity(alloc, count)?;
@@ -57,7 +60,8 @@ pub fn shapes(columns: &[Column]) -> ArrayVec<Option<Shape>, MAX_PMUS>
 /// The count of each column that waits to be stored, and 0 past the last column.
 pub fn waiting(columns: &[Column]) -> [u16; MAX_PMUS]
     requires { length columns.now ≤ MAX_PMUS }
-    ensures { result ≡ map (λ (column : ColumnState). greatest_count column.cleared column.held) columns.now ++ replicate (MAX_PMUS - length columns.now) 0 }
+    ensures { result ≡ map (λ (column : ColumnState). greatest_count column.cleared column.held)
+        columns.now ++ replicate (MAX_PMUS - length columns.now) 0 }
 {
     let mut counts = [0; MAX_PMUS];
     for (place, column) in columns.iter().enumerate() {

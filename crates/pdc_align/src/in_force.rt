@@ -20,7 +20,8 @@ pub fn sections_in_force<'a, T: Table>(
     requires few { columns ≤ MAX_PMUS }
     requires columns { length alignment.now.state.columns ≡ columns }
     ensures sections { (g : Given) (E : List Entry) → StandsFor g E alignment.now.state →
-        map fields_of_view result.items ≡ filter_map (section_in_force g E) (range_with_len 0 columns) }
+        map fields_of_view result.items ≡
+        filter_map (section_in_force g E) (range_with_len 0 columns) }
     ensures few { length result.items ≤ MAX_PMUS }
 {
     let mut sections = ArrayVec::new();
@@ -37,7 +38,8 @@ fn push_some<'a>(
 )
     requires { length sections.old.items < MAX_PMUS }
     ensures sections { map fields_of_view sections.new.items
-        ≡ map fields_of_view sections.old.items ++ option_to_list (option_map fields_of_view section.entry) }
+        ≡ map fields_of_view sections.old.items ++
+        option_to_list (option_map fields_of_view section.entry) }
     ensures grown { length sections.new.items ≤ length sections.old.items + 1 }
 {
     if let Some(section) = section {

@@ -28,17 +28,23 @@ pub fn append_layout_frame<T: Table, B: Buffer>(
 ) -> Result<(), AllocError>
     requires few { columns ≤ MAX_PMUS }
     requires columns { length alignment.now.state.columns ≡ columns }
-    ensures ok { (g : Given) (E : List Entry) → StandsFor g E alignment.now.state → output.now ≡ g.output → start ≡ g.start → columns ≡ g.columns →
+    ensures ok { (g : Given) (E : List Entry) → StandsFor g E alignment.now.state →
+        output.now ≡ g.output → start ≡ g.start → columns ≡ g.columns →
         OnOk result (B.content out.new ≡ B.content out.old ++ layout_wire g E soc) }
     // It fails only where there was no room, and then nothing is appended.
-    ensures err { OnErr result ((B.content out.new ≡ B.content out.old) × (B.capacity out.new ≡ B.capacity out.old)) }
-    ensures room { (g : Given) (E : List Entry) → StandsFor g E alignment.now.state → output.now ≡ g.output → start ≡ g.start → columns ≡ g.columns →
-        length (B.content out.old) + length (layout_wire g E soc) ≤ B.capacity out.old → IsOk result }
+    ensures err { OnErr result ((B.content out.new ≡ B.content out.old)
+        × (B.capacity out.new ≡ B.capacity out.old)) }
+    ensures room { (g : Given) (E : List Entry) → StandsFor g E alignment.now.state →
+        output.now ≡ g.output → start ≡ g.start → columns ≡ g.columns →
+        length (B.content out.old) + length (layout_wire g E soc) ≤ B.capacity out.old →
+        IsOk result }
     // A request for the whole frame was refused.
     ensures refused { OnErr result (ForSome (B.refused out.new)) }
     // Where there was room, it takes no memory.
-    ensures in_place { (g : Given) (E : List Entry) → StandsFor g E alignment.now.state → output.now ≡ g.output → start ≡ g.start → columns ≡ g.columns →
-        length (B.content out.old) + length (layout_wire g E soc) ≤ B.capacity out.old → B.capacity out.new ≡ B.capacity out.old }
+    ensures in_place { (g : Given) (E : List Entry) → StandsFor g E alignment.now.state →
+        output.now ≡ g.output → start ≡ g.start → columns ≡ g.columns →
+        length (B.content out.old) + length (layout_wire g E soc) ≤ B.capacity out.old →
+        B.capacity out.new ≡ B.capacity out.old }
     ensures capacity { B.capacity out.old ≤ B.capacity out.new }
 {
     let sections = sections_in_force(alignment, columns);

@@ -35,8 +35,10 @@ impl<T: Table> Alignment<T> {
         quality: u8,
     ) -> Outcome
         requires { IsPut self.old.state.content stream (body_cells_of cells.now quality) }
-        ensures answer { result ≡ put_outcome self.old.state stream instant (body_cells_of cells.now quality) }
-        ensures state { self.new.state ≡ after_data self.old.state stream instant (body_cells_of cells.now quality) }
+        ensures answer { result ≡ put_outcome self.old.state stream instant
+            (body_cells_of cells.now quality) }
+        ensures state { self.new.state ≡
+            after_data self.old.state stream instant (body_cells_of cells.now quality) }
         ensures unchanged { Unchanged self.old self.new }
     {
         if instant <= self.table.last() {
@@ -57,11 +59,15 @@ impl<T: Table> Alignment<T> {
         bytes: &[u8],
         quality: u8,
     ) -> Outcome
-        requires put { IsPut self.old.state.content stream (cut_cells P.column_of P.shape_of parts.now quality (words_in bytes.now)) }
+        requires put { IsPut self.old.state.content stream
+            (cut_cells P.column_of P.shape_of parts.now quality (words_in bytes.now)) }
         requires size { length bytes.now ≡ parts_len P.shape_of parts.now }
         requires few { length parts.now ≤ MAX_PMUS }
-        ensures answer { result ≡ put_outcome self.old.state stream instant (cut_cells P.column_of P.shape_of parts.now quality (words_in bytes.now)) }
-        ensures state { self.new.state ≡ after_data self.old.state stream instant (cut_cells P.column_of P.shape_of parts.now quality (words_in bytes.now)) }
+        ensures answer { result ≡ put_outcome self.old.state stream instant
+            (cut_cells P.column_of P.shape_of parts.now quality (words_in bytes.now)) }
+        ensures state { self.new.state ≡
+            after_data self.old.state stream instant
+            (cut_cells P.column_of P.shape_of parts.now quality (words_in bytes.now)) }
         ensures unchanged { Unchanged self.old self.new }
     {
         if instant <= self.table.last() {

@@ -29,7 +29,8 @@ impl Model for Slot {
 
     ghost view = { λ slot. option_map fields_of_section slot.section.value };
 
-    ghost invariant = { λ slot. IsTold slot.count slot.shape (option_map fields_of_section slot.section.value) };
+    ghost invariant = { λ slot. IsTold slot.count slot.shape
+        (option_map fields_of_section slot.section.value) };
 }
 
 impl Slot {

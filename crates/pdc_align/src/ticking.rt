@@ -4,7 +4,9 @@ ghost use Rattle.std.specs.List.{All, list_any};
 ghost use Rattle.pdc_table.specs.Steps as table;
 ghost use Rattle.pdc_align.specs.State.{rule_of};
 ghost use Rattle.pdc_align.specs.Align.{KeepsSizes, Unchanged, new_change};
-ghost use Rattle.pdc_align.specs.Calls.{after_adopting, after_closing, after_tick_of, cleared_from, disagreements_at, is_ready_in, row_layout_in, told_at};
+ghost use Rattle.pdc_align.specs.Calls.{after_adopting, after_closing, after_tick_of};
+ghost use Rattle.pdc_align.specs.Calls.{cleared_from, disagreements_at, is_ready_in};
+ghost use Rattle.pdc_align.specs.Calls.{row_layout_in, told_at};
 
 use crate::adopting::adopt_in;
 use crate::{Alignment, Ticked, columns};
@@ -31,7 +33,8 @@ impl<T: Table> Alignment<T> {
         ensures wait { self.old.state.wait < 2 ^ 64 }
         ensures sizes { KeepsSizes self.old.state self.new.state }
         ensures memory { self.new.memory ≡ self.old.memory }
-        ensures disagreements { self.new.disagreements ≡ disagreements_at self.old.disagreements self.old.state now }
+        ensures disagreements { self.new.disagreements ≡
+            disagreements_at self.old.disagreements self.old.state now }
         ensures popped { self.new.popped ≡ self.old.popped }
     {
         let (closed, any_ready) = self.close(now, counts);
@@ -59,14 +62,17 @@ impl<T: Table> Alignment<T> {
 
     /// Closes the rows that are due, and clears the counts. It answers how many rows, and whether some column is ready.
     fn close(&mut self, now: u64, counts: &[u16; MAX_PMUS]) -> (u32, bool)
-        ensures answer { result.0 ≡ table.tick_answer self.old.state.content (rule_of self.old.state.wait_kind self.old.state.wait now) }
+        ensures answer { result.0 ≡
+            table.tick_answer self.old.state.content
+            (rule_of self.old.state.wait_kind self.old.state.wait now) }
         ensures ready { result.1 ≡ list_any is_ready_in self.new.state.columns }
         // And here `step` does.
         ensures wait { self.old.state.wait < 2 ^ 64 }
         ensures state { self.new.state ≡ after_closing self.old.state now counts.now }
         ensures sizes { KeepsSizes self.old.state self.new.state }
         ensures memory { self.new.memory ≡ self.old.memory }
-        ensures disagreements { self.new.disagreements ≡ disagreements_at self.old.disagreements self.old.state now }
+        ensures disagreements { self.new.disagreements ≡
+            disagreements_at self.old.disagreements self.old.state now }
         ensures popped { self.new.popped ≡ self.old.popped }
     {
         let rule = rule_of(self.wait_kind, self.wait, now);
@@ -79,10 +85,16 @@ impl<T: Table> Alignment<T> {
     /// Closes the rows that are due by the rule, under the layout in force. It answers how many.
     fn close_rows(&mut self, rule: WaitRule) -> u32
         ensures answer { result ≡ table.tick_answer self.old.state.content rule }
-        ensures state { self.new.state ≡ record self.old.state { content = table.after_tick self.old.state.content rule (row_layout_in self.old.state) } }
+        ensures state { self.new.state ≡
+            record self.old.state {
+              content = table.after_tick self.old.state.content rule
+                  (row_layout_in self.old.state);
+            } }
         ensures sizes { KeepsSizes self.old.state self.new.state }
         ensures memory { self.new.memory ≡ self.old.memory }
-        ensures disagreements { self.new.disagreements ≡ table.disagreements_after self.old.disagreements self.old.state.content rule (row_layout_in self.old.state) }
+        ensures disagreements { self.new.disagreements ≡
+            table.disagreements_after self.old.disagreements self.old.state.content rule
+            (row_layout_in self.old.state) }
         ensures popped { self.new.popped ≡ self.old.popped }
     {
         self.table.tick(rule, &self.layout)
@@ -92,7 +104,8 @@ impl<T: Table> Alignment<T> {
     /// was held since.
     fn clear(&mut self, counts: &[u16; MAX_PMUS]) -> bool
         ensures ready { result ≡ list_any is_ready_in self.new.state.columns }
-        ensures state { self.new.state ≡ record self.old.state { columns = cleared_from 0 counts.now self.old.state.columns } }
+        ensures state { self.new.state ≡
+            record self.old.state { columns = cleared_from 0 counts.now self.old.state.columns } }
         ensures unchanged { Unchanged self.old self.new }
     {
         if self.is_quiet && self.cleared == *counts {

@@ -1,9 +1,12 @@
 //! The aligner: ticks, pops, publishes, and puts on the channel. It alone owns the mark.
-ghost use Rattle.std.specs.Prelude.{◌≡◌, ◌||◌, ◌++◌, ◌∷◌, IfErr, IfOk, List, OnErr, OnOk, [], length};
+ghost use Rattle.std.specs.Prelude.{◌≡◌, ◌||◌, ◌++◌, ◌∷◌, IfErr, IfOk, List, OnErr, OnOk, []};
+ghost use Rattle.std.specs.Prelude.{length};
 ghost use Rattle.pdc_align.specs.Align.{ticked_of};
-ghost use Rattle.pdc_aligner.specs.Aligning.{HasLaid, HasLaidBut, HasTickedAs, MayPublish, PutsAll, PutsRising, TicksOnce};
+ghost use Rattle.pdc_aligner.specs.Aligning.{HasLaid, HasLaidBut, HasTickedAs, MayPublish};
+ghost use Rattle.pdc_aligner.specs.Aligning.{PutsAll, PutsRising, TicksOnce};
 ghost use Rattle.pdc_aligner.specs.Device.{IsOfAligner};
-ghost use Rattle.pdc_aligner.specs.Keeping.{HasDeviceOf, KeepsOutput, OnlyCountsChange, counts_in, floor_in};
+ghost use Rattle.pdc_aligner.specs.Keeping.{HasDeviceOf, KeepsOutput, OnlyCountsChange};
+ghost use Rattle.pdc_aligner.specs.Keeping.{counts_in, floor_in};
 ghost use Rattle.pdc_aligner.specs.Laid.{AreDone, IsAt, IsBefore, IsDone};
 ghost use Rattle.pdc_aligner.specs.Opened.{IsOpenedWith};
 ghost use Rattle.pdc_aligner.specs.Rate.{IsAtRate};
@@ -30,7 +33,7 @@ use pdc_hub::{Hub, HubFault, Ledgers, Naming, Pops};
 use pdc_log::Front;
 use pdc_mark::Mark;
 use pdc_pipe::{Message, Writer, close};
-use pdc_ports::{Did, MAX_PMUS, Numbered, Ticker, Told};
+use pdc_ports::{Did, MAX_PMUS, Numbered, Progress, Ticker};
 use pdc_publisher::Publisher;
 use std::alloc::Global;
 use std::sync::{OnceToken, Wait};
@@ -93,9 +96,11 @@ fn cleared<C: Core + Drop, N: Naming<C::Settings>, M: Mark, K, R: Wait>(
     now: u64,
 ) -> Result<Numbered<Ticked>, HubFault>
     requires { HasAllTurns aligner.old.pops N.turns }
-    ensures stored { IfOk result (AddsTick ticked_of C.rules N.given now (counts_in aligner.new.publisher)
+    ensures stored { IfOk result (AddsTick ticked_of C.rules N.given now
+        (counts_in aligner.new.publisher)
         aligner.old.pops aligner.new.pops) }
-    ensures none_falls { NoneFalls (counts_in aligner.old.publisher) (counts_in aligner.new.publisher) }
+    ensures none_falls { NoneFalls (counts_in aligner.old.publisher)
+        (counts_in aligner.new.publisher) }
     ensures kept { OnlyCountsChange aligner.old.publisher aligner.new.publisher }
     ensures same { PopsNothing aligner.old.pops aligner.new.pops }
     ensures others { (aligner.new.writer ≡ aligner.old.writer)
@@ -137,14 +142,16 @@ fn turn<C: Core + Drop, N: Naming<C::Settings>, M: Mark, K: Ticker, R: Wait>(
     ensures laid { OnOk result (HasLaid C.rules N.given
         (output_in aligner.old.publisher) pace.now aligner.new) }
     ensures but { HasLaidBut C.rules N.given (output_in aligner.old.publisher) pace.now aligner.new }
-    ensures at { IfOk result (λ adopts. IsAt C.rules N.given pace.now.layout_every aligner.new.pops.front
+    ensures at { IfOk result (λ adopts. IsAt C.rules N.given pace.now.layout_every
+        aligner.new.pops.front
         (adopts || tick.adopted) tick.place) }
     // All rows that were due were popped before.
     ensures done { OnOk result (IsDone C.rules N.given aligner.new.pops.front) }
     ensures are_done { AreDone C.rules N.given aligner.new.pops.front }
     // One tick was added, with the counts that the mark stores.
     ensures ticked { TicksOnce tick.now aligner.old aligner.new result }
-    ensures none_falls { NoneFalls (counts_in aligner.old.publisher) (counts_in aligner.new.publisher) }
+    ensures none_falls { NoneFalls (counts_in aligner.old.publisher)
+        (counts_in aligner.new.publisher) }
     ensures kept { KeepsOutput aligner.old.publisher aligner.new.publisher }
     ensures causes { IfErr result IsOfAligner }
     ensures device { HasDeviceOf aligner.old.publisher aligner.new.publisher result }
@@ -187,13 +194,13 @@ fn told_of<C: Core + Drop, N: Naming<C::Settings>, M: Mark, R: Wait>(
     seen: &mut Front<N>,
     publisher: &Publisher<M>,
     published: u64,
-) -> Told
+) -> Progress
     ensures later { IsPrefix seen.old seen.new }
     ensures counts { InTheLife C.rules N.given seen.new (λ g E. result.counts ≡ counts_after E) }
     ensures published { result.published ≡ published }
     ensures last { result.last ≡ last_in publisher.now }
 {
-    Told {
+    Progress {
         counts: hub.counts_behind(rt, seen),
         published,
         last: publisher.last(),
@@ -325,7 +332,8 @@ pub fn align<'h, C: Core + Drop, N: Naming<C::Settings>, M: Mark, K: Ticker, R: 
     ensures closed { OnOk result.outcome ((body : List Message)
         × (put_by aligner.new.writer ≡ body ++ End ∷ [])) }
     // Then the greatest instant that was popped is the last one that was published.
-    ensures out { OnOk result.outcome (last_in aligner.new.publisher ≡ aligner.new.pops.top.amount) }
+    ensures out { OnOk result.outcome (last_in aligner.new.publisher ≡
+        aligner.new.pops.top.amount) }
     // What was put are the frames of the life, in order, but for one at most where it failed.
     ensures laid { OnOk result.outcome (HasLaid C.rules N.given
         (output_in aligner.old.publisher) pace.now aligner.new) }

@@ -102,7 +102,8 @@ pub fn put_layout_where<C: Core + Drop, N: Naming<C::Settings>, M, K: Ticker, R:
     requires open { IsOpen writer.old }
     ensures looked { OnlyLooks pops.old pops.new }
     ensures on { GoesOn writer.old writer.new }
-    ensures layout { OnOk result (HasPutLayout C.rules N.given pops.new.front asked.soc asked.is_wanted
+    ensures layout { OnOk result (HasPutLayout C.rules N.given pops.new.front asked.soc
+        asked.is_wanted
         (put_by writer.old) (put_by writer.new)) }
     ensures err { OnErr result (put_by writer.new ≡ put_by writer.old) }
     ensures instants { instants_of (put_by writer.new) ≡ instants_of (put_by writer.old) }

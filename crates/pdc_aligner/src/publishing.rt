@@ -1,6 +1,7 @@
 //! What is due is published, and put on the channel.
 ghost use Rattle.std.specs.Prelude.{◌≡◌, ◌<◌, ◌*◌, IfErr, OnErr, OnOk, false, true};
-ghost use Rattle.pdc_aligner.specs.Aligning.{KeepsAsked, KeepsAt, LaysBut, LaysUpToLayout, MayPublish, PutsAll, PutsRising};
+ghost use Rattle.pdc_aligner.specs.Aligning.{KeepsAsked, KeepsAt, LaysBut, LaysUpToLayout};
+ghost use Rattle.pdc_aligner.specs.Aligning.{MayPublish, PutsAll, PutsRising};
 ghost use Rattle.pdc_aligner.specs.Device.{IsOfAligner};
 ghost use Rattle.pdc_aligner.specs.Keeping.{HasDeviceOf, KeepsOutput, counts_in};
 ghost use Rattle.pdc_aligner.specs.Laid.{AreDone, IsDone};
@@ -9,7 +10,8 @@ ghost use Rattle.pdc_aligner.specs.Sequence.{HasPutRow, RisesOn};
 ghost use Rattle.pdc_aligner.specs.Turns.{GivesNone};
 ghost use Rattle.pdc_frame.specs.declared.tag_limits.TheConstants.{SECONDS};
 ghost use Rattle.pdc_hub.specs.Adding.{AddsPop};
-ghost use Rattle.pdc_hub.specs.Pops.{HasAllTop, HasAllTurns, HasPoppedNone, HasPoppedOne, HasSameShares};
+ghost use Rattle.pdc_hub.specs.Pops.{HasAllTop, HasAllTurns, HasPoppedNone, HasPoppedOne};
+ghost use Rattle.pdc_hub.specs.Pops.{HasSameShares};
 ghost use Rattle.pdc_log.specs.Log.{ticks_of};
 ghost use Rattle.pdc_pipe.specs.Writing.{GoesOn, IsOpen, put_by};
 ghost use Rattle.pdc_publisher.specs.Publisher.{last_in, output_in};

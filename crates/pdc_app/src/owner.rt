@@ -5,7 +5,7 @@ use pdc_any_mark::read_mark_file;
 use pdc_command_line::Running;
 use pdc_mark::MarkFault;
 use pdc_service::read_settings_text;
-use pdc_settings::{MergerSettings, NodeSettings, is_of_merger};
+use pdc_settings::{Document, MergerSettings, NodeSettings};
 use std::fmt::{Display, Formatter};
 use std::fs::File;
 use std::rt::Files;
@@ -46,10 +46,11 @@ impl Display for OtherOwner<'_> {
 /// The owner that settings name.
 fn owner_in<R: Files<File = File> + AllocGlobal>(rt: &R, settings: &str) -> Option<Owner> {
     let (alloc, text) = (rt.alloc(), read_settings_text(rt, settings).ok()?);
-    let output = if is_of_merger(alloc, &text).ok()? {
-        MergerSettings::from_toml(alloc, &text).ok()?.life.output
+    let document = Document::parse(alloc, &text).ok()?;
+    let output = if document.is_merger() {
+        MergerSettings::from_document(&document).ok()?.life.output
     } else {
-        NodeSettings::from_toml(alloc, &text).ok()?.life.output
+        NodeSettings::from_document(&document).ok()?.life.output
     };
     Some(Owner {
         id: output.id.value,

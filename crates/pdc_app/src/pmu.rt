@@ -3,7 +3,7 @@
 use crate::complaint::{NamedPort, complain, complain_at, complain_of, local_port, print_fault};
 use crate::{DONE, FAILED};
 use pdc_command_line::{PortOrHost, Simulated as Asked};
-use pdc_simulation::{Place, Simulated, SimulationFault, simulate};
+use pdc_simulation::{Simulated, SimulationFault, Target, simulate};
 use std::alloc::Global;
 use std::io;
 
@@ -49,10 +49,10 @@ fn report_simulation(
 }
 
 /// A place, as the words of the command line say it.
-fn place_of<'a>(asked: &PortOrHost<'a>) -> Place<'a> {
+fn place_of<'a>(asked: &PortOrHost<'a>) -> Target<'a> {
     match asked {
-        PortOrHost::Port(port) => Place::Port(*port),
-        PortOrHost::At(text) => Place::At(text),
+        PortOrHost::Port(port) => Target::Port(*port),
+        PortOrHost::At(text) => Target::At(text),
     }
 }
 
@@ -60,7 +60,7 @@ fn place_of<'a>(asked: &PortOrHost<'a>) -> Place<'a> {
 fn places_of<'a>(
     alloc: Global,
     asked: &[PortOrHost<'a>],
-) -> Result<Vec<Place<'a>>, SimulationFault> {
+) -> Result<Vec<Target<'a>>, SimulationFault> {
     let mut places = Vec::new(alloc);
     for place in asked {
         places

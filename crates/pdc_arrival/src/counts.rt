@@ -47,7 +47,8 @@ impl Counts {
     /// How many arrivals were refused by this cause.
     pub fn refused_as(&self, refusal: Refusal) -> u64
         ensures value { result ≡ slice_index_or self.now.causes (number_of refusal) 0 }
-        ensures life { (E : List Entry) → self.now ≡ counts_after E → result ≡ refused_as (is_cause (number_of refusal)) E }
+        ensures life { (E : List Entry) → self.now ≡ counts_after E →
+            result ≡ refused_as (is_cause (number_of refusal)) E }
     {
         self.causes[refusal.number()]
     }
@@ -56,7 +57,8 @@ impl Counts {
     pub fn count(&mut self, outcome: Outcome)
         ensures after { self.new ≡ after_answer outcome self.old }
         // The counters of a life become those of the life with an arrival more that was answered so.
-        ensures life { (E : List Entry) (s : ℕ) (bytes : List ℕ) (arrival : Arrival) (answer : Answer) → self.old ≡ counts_after E →
+        ensures life { (E : List Entry) (s : ℕ) (bytes : List ℕ) (arrival : Arrival)
+            (answer : Answer) → self.old ≡ counts_after E →
             outcome ≡ answer.outcome → self.new ≡ counts_after (Arrive s bytes arrival answer ∷ E) }
     {
         self.add(outcome);

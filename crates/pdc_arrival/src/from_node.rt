@@ -64,7 +64,8 @@ pub fn arrival_from_node<'a>(
     heard: Heard<'a>,
 ) -> Arrival<'a>
     requires { stream < NODES }
-    ensures { (bytes : List ℕ) → HearsForMerger settings.now stream bytes heard.entry → Says (OfMerger settings.now) stream bytes (arrival_view result) }
+    ensures { (bytes : List ℕ) → HearsForMerger settings.now stream bytes heard.entry →
+        Says (OfMerger settings.now) stream bytes (arrival_view result) }
 {
     arrival_of(settings, node_of(settings, stream), heard)
 }
@@ -103,7 +104,8 @@ fn hear<'a>(settings: &MergerSettings, node: &MergedNode, bytes: &'a [u8]) -> He
 /// What a data frame of the node's stream says.
 #[inline(always)]
 fn hear_data<'a>(settings: &MergerSettings, node: &MergedNode, frame: &Frame<'a>) -> Heard<'a>
-    ensures { (bytes : List ℕ) → IsOfStream (stream_from settings.now node.now) bytes (fields_of frame.now) → frame.now.kind ≡ DataFrame
+    ensures { (bytes : List ℕ) → IsOfStream (stream_from settings.now node.now) bytes
+        (fields_of frame.now) → frame.now.kind ≡ DataFrame
         → HearsFrom settings.now node.now bytes result }
 {
     let rate = u32::from(settings.output.rate);
@@ -119,7 +121,8 @@ fn hear_data<'a>(settings: &MergerSettings, node: &MergedNode, frame: &Frame<'a>
 
 /// What was heard from this node says this.
 fn arrival_of<'a>(settings: &MergerSettings, node: &MergedNode, heard: Heard<'a>) -> Arrival<'a>
-    ensures { (bytes : List ℕ) → HearsFrom settings.now node.now bytes heard.entry → ReadsFrom settings.now node.now bytes (arrival_view result) }
+    ensures { (bytes : List ℕ) → HearsFrom settings.now node.now bytes heard.entry →
+        ReadsFrom settings.now node.now bytes (arrival_view result) }
 {
     match heard {
         Heard::BytesRefused(refusal) => Arrival::BytesRefused(refusal),
@@ -143,7 +146,8 @@ fn read_configuration<'a>(
     node: &MergedNode,
     frame: &Frame<'a>,
 ) -> Arrival<'a>
-    ensures { (bytes : List ℕ) → IsOfStream (stream_from settings.now node.now) bytes (fields_of frame.now) → frame.now.kind ≡ Cfg2
+    ensures { (bytes : List ℕ) → IsOfStream (stream_from settings.now node.now) bytes
+        (fields_of frame.now) → frame.now.kind ≡ Cfg2
         → ReadsFrom settings.now node.now bytes (arrival_view result) }
 {
     match read_config(frame) {
@@ -158,7 +162,8 @@ fn read_layout<'a>(
     node: &MergedNode,
     config: &ConfigView<'a>,
 ) -> Arrival<'a>
-    ensures { (bytes : List ℕ) → HasConfig (stream_from settings.now node.now) bytes (config_fields_of config.now)
+    ensures { (bytes : List ℕ) → HasConfig (stream_from settings.now node.now) bytes
+        (config_fields_of config.now)
         → ReadsFrom settings.now node.now bytes (arrival_view result) }
 {
     if config.time_base != node.time_base {

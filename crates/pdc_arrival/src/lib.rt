@@ -26,8 +26,8 @@ pub use from_pmu::{arrival_from_pmu, hear_from_pmu, read_from_pmu};
 pub use own_block::{bears, body};
 pub use pdc_life::{
     Body, Buffer, CAUSES, DueRow, MAX_PMUS, MergerSettings, OWN_BLOCK_LEN, Outcome, Output,
-    Refusal, Section, SectionView, Settings, Shape, WaitKind, append_layout, causes_are_told_apart,
-    cells_are_of_sections, numbers_rise, taken_is_in_time,
+    Reading, Refusal, Section, SectionView, Settings, Shape, WaitKind, append_layout,
+    causes_are_told_apart, cells_are_of_sections, numbers_rise, taken_is_in_time,
 };
 pub use sections::{count_for, differs, is_candidate, section_answer};
 pub use stamps::layout_answer;

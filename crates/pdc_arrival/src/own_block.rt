@@ -29,7 +29,8 @@ pub fn body(shape: Shape, bytes: &[u8]) -> Block
 /// Whether the own block bears the stamp, behind STAT, FREQ and DFREQ.
 pub fn bears(own: &[u8], stamp: Stamp) -> bool
     requires { length own.now ≡ OWN_BLOCK_LEN }
-    ensures { result ≡ pointwise nat_eq (drop 3 (words_in own.now)) (stamp_words stamp.start stamp.change) }
+    ensures { result ≡ pointwise nat_eq (drop 3 (words_in own.now))
+        (stamp_words stamp.start stamp.change) }
 {
     let own = Body {
         shape: OWN_SHAPE,

@@ -28,8 +28,10 @@ fn long_of(high: u16, low: u16) -> u32
 /// The stamp that the masks of an own section say: the normal status of each digital word is the word.
 fn stamp_in(bytes: &[u8]) -> Stamp
     requires { length bytes.now ≡ OWN_SECTION_LEN }
-    ensures start { result.start ≡ WORDS * word_at (drop MASKS_PLACE bytes.now) 0 + word_at (drop MASKS_PLACE bytes.now) 4 }
-    ensures change { result.change ≡ WORDS * word_at (drop MASKS_PLACE bytes.now) 8 + word_at (drop MASKS_PLACE bytes.now) 12 }
+    ensures start { result.start ≡ WORDS * word_at (drop MASKS_PLACE bytes.now) 0 +
+        word_at (drop MASKS_PLACE bytes.now) 4 }
+    ensures change { result.change ≡ WORDS * word_at (drop MASKS_PLACE bytes.now) 8 +
+        word_at (drop MASKS_PLACE bytes.now) 12 }
 {
     let masks = &bytes[MASKS_PLACE..];
     Stamp {
@@ -46,7 +48,8 @@ fn is_spelled(
     stamp: Stamp,
     bytes: &[u8],
 ) -> bool
-    ensures { IsTrue result ↔ (bytes.now ≡ own_bytes node.now.id.value nominal stamp.start stamp.change) }
+    ensures { IsTrue result ↔ (bytes.now ≡
+        own_bytes node.now.id.value nominal stamp.start stamp.change) }
 {
     let output = Output {
         id: node.id,
@@ -60,7 +63,8 @@ fn is_spelled(
 
 /// Whether the bytes are the own section of the node with this stamp, under either nominal frequency.
 fn is_own(settings: &MergerSettings, node: &MergedNode, stamp: Stamp, bytes: &[u8]) -> bool
-    ensures { IsTrue result ↔ ((bytes.now ≡ own_bytes node.now.id.value Nominal.Hz50 stamp.start stamp.change)
+    ensures { IsTrue result ↔ ((bytes.now ≡
+        own_bytes node.now.id.value Nominal.Hz50 stamp.start stamp.change)
         ⊎ (bytes.now ≡ own_bytes node.now.id.value Nominal.Hz60 stamp.start stamp.change)) }
 {
     is_spelled(settings, node, Nominal::Hz50, stamp, bytes)
@@ -69,7 +73,8 @@ fn is_own(settings: &MergerSettings, node: &MergedNode, stamp: Stamp, bytes: &[u
 
 /// The stamp of a layout, where these bytes are the own section of the node, under either nominal frequency.
 pub fn own_stamp(settings: &MergerSettings, node: &MergedNode, bytes: &[u8]) -> Option<Stamp>
-    ensures { MatchOption result ((stamp : StampFields) → IsOwn node.now.id.value bytes.now stamp → ⊥)
+    ensures { MatchOption result ((stamp : StampFields) → IsOwn node.now.id.value bytes.now stamp →
+        ⊥)
         (λ stamp. IsOwn node.now.id.value bytes.now (stamp_view stamp)) }
 {
     if bytes.len() != OWN_SECTION_LEN {

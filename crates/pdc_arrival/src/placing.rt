@@ -18,7 +18,8 @@ pub fn place_sections<'a>(
 ) -> bool
     requires room { length placed.old.items + length sections.now ≤ MAX_PMUS }
     requires columns { column + length sources.now ≤ MAX_PMUS }
-    ensures placed { map section_part placed.new.items ≡ map section_part placed.old.items ++ parts_from column sources.now (map fields_of_view sections.now) }
+    ensures placed { map section_part placed.new.items ≡ map section_part placed.old.items ++
+        parts_from column sources.now (map fields_of_view sections.now) }
     ensures all { result ≡ are_in_order sources.now (map fields_of_view sections.now) }
 {
     let Some((section, later)) = sections.split_first() else {

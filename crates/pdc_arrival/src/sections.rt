@@ -17,7 +17,8 @@ pub fn count_for(column: usize, counts: &[u16; MAX_PMUS]) -> u16
 
 /// A section below the opening count is stale, also where nothing is held.
 pub fn section_answer(opening: u16, held: Option<SectionView>, section: &SectionView) -> Outcome
-    ensures { result ≡ section_answer opening (option_map fields_of_view held.entry) (fields_of_view section.now) }
+    ensures { result ≡ section_answer opening (option_map fields_of_view held.entry)
+        (fields_of_view section.now) }
 {
     if section.count < opening {
         Outcome::Refused(Refusal::StaleCount)
@@ -28,7 +29,8 @@ pub fn section_answer(opening: u16, held: Option<SectionView>, section: &Section
 
 /// A section is stale below the held count, new above it, and at the same count known where it has the same bytes.
 fn section_after(held: Option<SectionView>, section: &SectionView) -> Outcome
-    ensures { result ≡ section_after (option_map fields_of_view held.entry) (fields_of_view section.now) }
+    ensures { result ≡ section_after (option_map fields_of_view held.entry)
+        (fields_of_view section.now) }
 {
     let Some(held) = held else {
         return Outcome::Candidate;
@@ -46,7 +48,8 @@ fn section_after(held: Option<SectionView>, section: &SectionView) -> Outcome
 
 /// Whether the section has this count and other bytes.
 pub fn differs(other: Option<SectionView>, section: &SectionView) -> bool
-    ensures { result ≡ differs_from (option_map fields_of_view other.entry) (fields_of_view section.now) }
+    ensures { result ≡ differs_from (option_map fields_of_view other.entry)
+        (fields_of_view section.now) }
 {
     match other {
         Some(other) => other.count == section.count && other.bytes != section.bytes,

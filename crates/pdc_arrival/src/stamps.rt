@@ -16,7 +16,8 @@ fn is_older(first: Stamp, second: Stamp) -> bool
 
 /// A layout is new where its stamp is above the held one of its node; at the held stamp nothing more is looked at.
 pub fn layout_answer(held: Option<Stamp>, stamp: Stamp, conflicts: bool) -> Outcome
-    ensures { (layout : Option HeldLayout) → option_map stamp_view held ≡ option_map stamp_of layout →
+    ensures { (layout : Option HeldLayout) →
+        option_map stamp_view held ≡ option_map stamp_of layout →
         result ≡ layout_answer layout (stamp_view stamp) conflicts }
 {
     answer_after(held, stamp, conflicts)

@@ -25,7 +25,8 @@ impl Default for Block {
     ghost use Rattle.std.specs.Prelude.{[], ◌∷◌};
     ghost use Rattle.pdc_block.specs.Block.{words_of};
 
-    ghost is_default = { λ block. (word_count_of block.shape ≡ 3) × (words_of block ≡ 0 ∷ 0 ∷ 0 ∷ []) };
+    ghost is_default = { λ block. (word_count_of block.shape ≡ 3)
+        × (words_of block ≡ 0 ∷ 0 ∷ 0 ∷ []) };
 
     fn default() -> Block {
         let mut words = ArrayVec::new();
@@ -42,7 +43,8 @@ impl Default for Block {
 impl Clone for Block {
     ghost use Rattle.pdc_block.specs.Block.{words_of};
 
-    ghost is_clone = { λ block copy. (copy.shape ≡ block.shape) × (words_of copy ≡ words_of block) };
+    ghost is_clone = { λ block copy. (copy.shape ≡ block.shape)
+        × (words_of copy ≡ words_of block) };
 
     ghost is_infallible = { λ _. Unit {0} };
 

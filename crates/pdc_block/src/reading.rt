@@ -1,5 +1,6 @@
 //! Blocks, read from the payload of a data frame.
-ghost use Rattle.std.specs.Prelude.{◌≡◌, ◌*◌, ◌≤◌, ℕ, List, IfOk, IfErr, IsOkAnd, length, map, sum_by};
+ghost use Rattle.std.specs.Prelude.{◌≡◌, ◌*◌, ◌≤◌, ℕ, List, IfOk, IfErr, IsOkAnd, length, map};
+ghost use Rattle.std.specs.Prelude.{sum_by};
 ghost use Rattle.pdc_block.specs.Block.{IsBody, IsCut, words_of, shape_of, body_len_of};
 
 use crate::block::Block;
@@ -29,7 +30,8 @@ pub fn read_body(shape: Shape, bytes: &[u8]) -> Result<Block, BodyFault>
     // What is read is spelled so.
     ensures found { IfOk result (λ block. IsBody shape bytes.now (words_of block)) }
     // What is spelled so is read, with these words.
-    ensures only { (words : List ℕ) → IsBody shape bytes.now words → IsOkAnd result (λ block. words_of block ≡ words) }
+    ensures only { (words : List ℕ) → IsBody shape bytes.now words →
+        IsOkAnd result (λ block. words_of block ≡ words) }
     // Else nothing is spelled so.
     ensures refused { IfErr result (λ _. (words : List ℕ) → IsBody shape bytes.now words → ⊥) }
 {
@@ -61,12 +63,14 @@ pub fn cut(shapes: &[Shape], payload: &[u8]) -> Result<ArrayVec<Block, MAX_SECTI
     requires { length shapes.now ≤ MAX_SECTIONS }
     ensures shapes { IfOk result (λ blocks. map shape_of blocks.items ≡ shapes.now) }
     // What is read is spelled so.
-    ensures found { IfOk result (λ blocks. IsCut shapes.now payload.now (map words_of blocks.items)) }
+    ensures found { IfOk result (λ blocks. IsCut shapes.now payload.now
+        (map words_of blocks.items)) }
     // What is spelled so is read, with these words.
     ensures only { (blocks : List (List ℕ)) → IsCut shapes.now payload.now blocks
         → IsOkAnd result (λ found. map words_of found.items ≡ blocks) }
     // Else nothing is spelled so.
-    ensures refused { IfErr result (λ _. (blocks : List (List ℕ)) → IsCut shapes.now payload.now blocks → ⊥) }
+    ensures refused { IfErr result (λ _. (blocks : List (List ℕ)) →
+        IsCut shapes.now payload.now blocks → ⊥) }
 {
     words_are_their_bytes();
     parts_keep_their_words();

@@ -1,6 +1,8 @@
 //! Blocks, written as the payload of a data frame.
-ghost use Rattle.std.specs.Prelude.{◌≡◌, ◌+◌, ◌*◌, ◌<◌, ◌≤◌, ◌++◌, ◌∷◌, [], drop, map, take, length, sum_by, IsOk, OnOk, OnErr};
-ghost use Rattle.pdc_block.specs.Block.{IsCut, words_of, shape_of, body_len_of, bytes_of_words, bytes_of_blocks};
+ghost use Rattle.std.specs.Prelude.{◌≡◌, ◌+◌, ◌*◌, ◌<◌, ◌≤◌, ◌++◌, ◌∷◌, [], drop, map, take};
+ghost use Rattle.std.specs.Prelude.{length, sum_by, IsOk, OnOk, OnErr};
+ghost use Rattle.pdc_block.specs.Block.{IsCut, words_of, shape_of, body_len_of, bytes_of_words};
+ghost use Rattle.pdc_block.specs.Block.{bytes_of_blocks};
 
 use crate::block::Block;
 use crate::in_place::WORDS_AT_ONCE;
@@ -262,8 +264,10 @@ pub fn joined_len(blocks: &[Block]) -> usize
 
 /// Appends the bytes of the blocks, one after the other. It takes no memory: there is room for them.
 pub fn append_blocks<B: Buffer>(blocks: &[Block], out: &mut B)
-    requires { length (B.content out.old) + sum_by (λ block. body_len_of (shape_of block)) blocks.now ≤ B.capacity out.old }
-    ensures content { B.content out.new ≡ B.content out.old ++ bytes_of_blocks (map words_of blocks.now) }
+    requires { length (B.content out.old) +
+        sum_by (λ block. body_len_of (shape_of block)) blocks.now ≤ B.capacity out.old }
+    ensures content { B.content out.new ≡ B.content out.old ++
+        bytes_of_blocks (map words_of blocks.now) }
     ensures in_place { B.capacity out.new ≡ B.capacity out.old }
 {
     for block in blocks {
@@ -291,16 +295,23 @@ pub fn write_blocks(blocks: &[Block], bytes: &mut [u8])
 ///
 /// [`AllocError`] where `out` has no room and gets none.
 pub fn join<B: Buffer>(blocks: &[Block], out: &mut B) -> Result<(), AllocError>
-    ensures ok { OnOk result (B.content out.new ≡ B.content out.old ++ bytes_of_blocks (map words_of blocks.now)) }
+    ensures ok { OnOk result (B.content out.new ≡ B.content out.old ++
+        bytes_of_blocks (map words_of blocks.now)) }
     // Under their shapes these bytes are cut into the words of the blocks, and `payloads_are_cut_in_one_way`.
-    ensures cut { IsCut (map shape_of blocks.now) (bytes_of_blocks (map words_of blocks.now)) (map words_of blocks.now) }
+    ensures cut { IsCut (map shape_of blocks.now) (bytes_of_blocks (map words_of blocks.now))
+        (map words_of blocks.now) }
     // It fails only where there was no room, and then nothing is appended.
-    ensures err { OnErr result ((B.content out.new ≡ B.content out.old) × (B.capacity out.new ≡ B.capacity out.old)) }
-    ensures room { length (B.content out.old) + sum_by (λ block. body_len_of (shape_of block)) blocks.now ≤ B.capacity out.old → IsOk result }
+    ensures err { OnErr result ((B.content out.new ≡ B.content out.old)
+        × (B.capacity out.new ≡ B.capacity out.old)) }
+    ensures room { length (B.content out.old) +
+        sum_by (λ block. body_len_of (shape_of block)) blocks.now ≤ B.capacity out.old →
+        IsOk result }
     // A request for all their bytes was refused.
-    ensures refused { OnErr result (B.refused out.new (sum_by (λ block. body_len_of (shape_of block)) blocks.now)) }
+    ensures refused { OnErr result (B.refused out.new
+        (sum_by (λ block. body_len_of (shape_of block)) blocks.now)) }
     // Where there was room, it takes no memory.
-    ensures in_place { length (B.content out.old) + sum_by (λ block. body_len_of (shape_of block)) blocks.now ≤ B.capacity out.old
+    ensures in_place { length (B.content out.old) +
+        sum_by (λ block. body_len_of (shape_of block)) blocks.now ≤ B.capacity out.old
         → B.capacity out.new ≡ B.capacity out.old }
     ensures capacity { B.capacity out.old ≤ B.capacity out.new }
 {

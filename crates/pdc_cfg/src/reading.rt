@@ -1,8 +1,11 @@
 //! A configuration, read from a frame CFG-1 or CFG-2.
-ghost use Rattle.std.specs.Prelude.{◌≡◌, ◌<◌, ◌≤◌, ◌↔◌, [], IfOk, IfErr, IsOkAnd, IsTrue, length, map};
+ghost use Rattle.std.specs.Prelude.{◌≡◌, ◌<◌, ◌≤◌, ◌↔◌, [], IfOk, IfErr, IsOkAnd, IsTrue, length};
+ghost use Rattle.std.specs.Prelude.{map};
 ghost use Rattle.arrayvec.specs.ArrayVec.{array_vec_len};
 ghost use Rattle.pdc_cfg.specs.Section.{fields_of_view};
-ghost use Rattle.pdc_cfg.specs.Config.{ConfigFields, config_fields_of, IsConfigKind, IsConfig, IsPayloadFault, IsFirstFault, Begins, body_in, section_count_in};
+ghost use Rattle.pdc_cfg.specs.Config.{ConfigFields, config_fields_of, IsConfigKind, IsConfig};
+ghost use Rattle.pdc_cfg.specs.Config.{IsPayloadFault, IsFirstFault, Begins, body_in};
+ghost use Rattle.pdc_cfg.specs.Config.{section_count_in};
 
 use crate::config::{ConfigView, MAX_SECTIONS};
 use crate::fault::CfgFault;
@@ -29,7 +32,8 @@ fn is_config_kind(kind: Kind) -> bool
 
 /// Whether NUM_PMU is there, and is 1.
 fn has_one_section(payload: &[u8]) -> bool
-    ensures { IsTrue result ↔ ((FIXED_LEN ≤ length payload.now) × (section_count_in payload.now ≡ 1)) }
+    ensures { IsTrue result ↔ ((FIXED_LEN ≤ length payload.now)
+        × (section_count_in payload.now ≡ 1)) }
 {
     payload.len() >= FIXED_LEN && read_word(payload, COUNT_PLACE) == 1
 }
@@ -60,7 +64,8 @@ fn config_of<'a>(
 #[inline(always)]
 fn read_payload(payload: &[u8]) -> Result<ConfigView<'_>, CfgFault>
     ensures found { IfOk result (λ c. IsConfig payload.now (config_fields_of c)) }
-    ensures only { (c : ConfigFields) → IsConfig payload.now c → IsOkAnd result (λ view. config_fields_of view ≡ c) }
+    ensures only { (c : ConfigFields) → IsConfig payload.now c →
+        IsOkAnd result (λ view. config_fields_of view ≡ c) }
     ensures fault { IfErr result (IsPayloadFault payload.now) }
 {
     words_are_their_bytes();
@@ -92,7 +97,8 @@ pub fn read_config<'a>(frame: &Frame<'a>) -> Result<ConfigView<'a>, CfgFault>
     ensures kind { IfOk result (λ _. IsConfigKind frame.now.kind) }
     ensures found { IfOk result (λ c. IsConfig frame.now.payload.now (config_fields_of c)) }
     // What is spelled so is read, with these sections.
-    ensures only { (c : ConfigFields) → IsConfigKind frame.now.kind → IsConfig frame.now.payload.now c
+    ensures only { (c : ConfigFields) → IsConfigKind frame.now.kind →
+        IsConfig frame.now.payload.now c
         → IsOkAnd result (λ view. config_fields_of view ≡ c) }
     // Which fault it is.
     ensures fault { IfErr result (IsFirstFault frame.now.kind frame.now.payload.now) }

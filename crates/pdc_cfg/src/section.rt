@@ -26,7 +26,14 @@ pub struct SectionView<'a> {
     /// Phasors are magnitude and angle, not real and imaginary part.
     pub polar: bool,
     // The bytes are a section that says this.
-    pub ghost whole: { IsSection (record { bytes = bytes.now; shape = shape; source = source; count = count; polar = polar }) },
+    pub ghost whole: { IsSection (record {
+      bytes = bytes.now;
+      shape = shape;
+      source = source;
+      count
+          = count;
+      polar = polar;
+    }) },
 }
 
 /// A section that holds its bytes: what a configuration says of one PMU (C37.118.2-2011, table 9).
@@ -43,7 +50,13 @@ pub struct Section {
     /// From STN to CFGCNT. They stand last, since most of what is asked of a section is in front.
     pub bytes: ArrayVec<u8, MAX_SECTION_LEN>,
     // The bytes are a section that says this.
-    pub ghost whole: { IsSection (record { bytes = bytes.items; shape = shape; source = source; count = count; polar = polar }) },
+    pub ghost whole: { IsSection (record {
+      bytes = bytes.items;
+      shape = shape;
+      source = source;
+      count = count;
+      polar = polar;
+    }) },
 }
 
 /// Makes these the bytes of a section. Where there were as many before, they are written over, and nothing is emptied first.

@@ -1,7 +1,9 @@
 //! The sections of a configuration, read one after the other.
-ghost use Rattle.std.specs.Prelude.{◌≡◌, ◌+◌, ◌-◌, ◌≤◌, IfOk, IfErr, OnOk, MatchOption, [], ◌∷◌, map, length, take};
+ghost use Rattle.std.specs.Prelude.{◌≡◌, ◌+◌, ◌-◌, ◌≤◌, IfOk, IfErr, OnOk, MatchOption, [], ◌∷◌};
+ghost use Rattle.std.specs.Prelude.{map, length, take};
 ghost use Rattle.arrayvec.specs.ArrayVec.{array_vec_len};
-ghost use Rattle.pdc_cfg.specs.Section.{fields_of_view, IsSectionFault, AreMany, phasors_in, analogs_in, digitals_in};
+ghost use Rattle.pdc_cfg.specs.Section.{fields_of_view, IsSectionFault, AreMany, phasors_in};
+ghost use Rattle.pdc_cfg.specs.Section.{analogs_in, digitals_in};
 ghost use Rattle.pdc_cfg.specs.Config.{Begins, IsBodyFault};
 
 use crate::config::MAX_SECTIONS;
@@ -27,7 +29,8 @@ const DIGITALS_PLACE: usize = 24;
 fn read_shape(bytes: &[u8]) -> Option<Shape>
     requires { SECTION_FIXED_LEN ≤ length bytes.now }
     ensures { MatchOption result (AreMany bytes.now)
-        (λ s. (phasors_in bytes.now ≡ s.phasors) × (analogs_in bytes.now ≡ s.analogs) × (digitals_in bytes.now ≡ s.digitals)) }
+        (λ s. (phasors_in bytes.now ≡ s.phasors) × (analogs_in bytes.now ≡ s.analogs)
+        × (digitals_in bytes.now ≡ s.digitals)) }
 {
     let phasors = read_word(bytes, PHASORS_PLACE);
     let analogs = read_word(bytes, ANALOGS_PLACE);

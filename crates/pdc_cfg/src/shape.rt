@@ -33,7 +33,8 @@ pub struct Shape {
 
 /// No values at all: a block of this shape has STAT, FREQ and DFREQ.
 impl Default for Shape {
-    ghost is_default = { λ shape. (shape.phasors ≡ 0) × (shape.analogs ≡ 0) × (shape.digitals ≡ 0) };
+    ghost is_default = { λ shape. (shape.phasors ≡ 0) × (shape.analogs ≡ 0)
+        × (shape.digitals ≡ 0) };
 
     fn default() -> Shape {
         Shape {

@@ -1,6 +1,7 @@
 //! The ports at which a concentrator listens, and when two are one.
 ghost use Rattle.std.specs.Prelude.{◌≡◌};
-ghost use Rattle.pdc_check.specs.Ports.{is_alike, is_any, is_one_address, meeting_of, same_kind, shared, twice};
+ghost use Rattle.pdc_check.specs.Ports.{is_alike, is_any, is_one_address, meeting_of, same_kind};
+ghost use Rattle.pdc_check.specs.Ports.{shared, twice};
 
 use crate::finding::Finding;
 use crate::misfit::Misfit;

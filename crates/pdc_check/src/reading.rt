@@ -6,7 +6,7 @@ use crate::outline::{Outline, Stream};
 use crate::port::{PortKey, UsedPort};
 use pdc_life::{MergedNode, Pmu};
 use pdc_settings::{
-    Input, MergerSettings, Network, NodeSettings, SettingsFault, TableName, is_of_merger,
+    Document, Input, MergerSettings, Network, NodeSettings, SettingsFault, TableName,
 };
 use std::alloc::{AllocError, Global};
 use std::net::IpAddr;
@@ -92,7 +92,8 @@ fn streams_of_nodes(
 
 /// Adds the sources of PMUs.
 fn push_sources(sources: &mut Vec<u16>, pmus: &[Pmu]) -> Result<(), AllocError>
-    ensures { OnOk result (sources.new.items ≡ sources.old.items ++ map (λ (pmu : PmuData). pmu.source) pmus.now) }
+    ensures { OnOk result (sources.new.items ≡ sources.old.items ++
+        map (λ (pmu : PmuData). pmu.source) pmus.now) }
 {
     match pmus.split_first() {
         Some((pmu, others)) => {
@@ -158,11 +159,14 @@ fn outline_of_node(
     ensures kind { IfOk result (λ outline. outline.is_merger ≡ false) }
     ensures id { IfOk result (λ outline. outline.id ≡ settings.now.life.output.id.value) }
     ensures rate { IfOk result (λ outline. outline.rate ≡ settings.now.life.output.rate) }
-    ensures time_base { IfOk result (λ outline. outline.time_base ≡ settings.now.life.output.time_base) }
+    ensures time_base { IfOk result (λ outline. outline.time_base ≡
+        settings.now.life.output.time_base) }
     ensures wait { IfOk result (λ outline. outline.wait ≡ settings.now.life.timing.wait) }
     ensures lead { IfOk result (λ outline. outline.lead ≡ settings.now.service.lead) }
-    ensures session_port { IfOk result (λ outline. outline.session_port ≡ settings.now.service.session_port) }
-    ensures sources { IfOk result (λ outline. outline.sources.items ≡ map (λ (pmu : PmuData). pmu.source) settings.now.life.pmus.items) }
+    ensures session_port { IfOk result (λ outline. outline.session_port ≡
+        settings.now.service.session_port) }
+    ensures sources { IfOk result (λ outline. outline.sources.items ≡
+        map (λ (pmu : PmuData). pmu.source) settings.now.life.pmus.items) }
 {
     let (output, service) = (settings.life.output, settings.service);
     let mut sources = Vec::new(alloc);
@@ -194,11 +198,14 @@ fn outline_of_merger(
     ensures kind { IfOk result (λ outline. outline.is_merger ≡ true) }
     ensures id { IfOk result (λ outline. outline.id ≡ settings.now.life.output.id.value) }
     ensures rate { IfOk result (λ outline. outline.rate ≡ settings.now.life.output.rate) }
-    ensures time_base { IfOk result (λ outline. outline.time_base ≡ settings.now.life.output.time_base) }
+    ensures time_base { IfOk result (λ outline. outline.time_base ≡
+        settings.now.life.output.time_base) }
     ensures wait { IfOk result (λ outline. outline.wait ≡ settings.now.life.timing.wait) }
     ensures lead { IfOk result (λ outline. outline.lead ≡ settings.now.service.lead) }
-    ensures session_port { IfOk result (λ outline. outline.session_port ≡ settings.now.service.session_port) }
-    ensures sources { IfOk result (λ outline. outline.sources.items ≡ settings.now.life.sources.items) }
+    ensures session_port { IfOk result (λ outline. outline.session_port ≡
+        settings.now.service.session_port) }
+    ensures sources { IfOk result (λ outline. outline.sources.items ≡
+        settings.now.life.sources.items) }
 {
     let (output, service) = (settings.life.output, settings.service);
     let mut sources = Vec::new(alloc);
@@ -221,29 +228,29 @@ fn outline_of_merger(
     })
 }
 
-/// The outline of a node's text.
-fn read_node(alloc: Global, text: &str) -> Result<Outline, SettingsFault> {
-    let settings = NodeSettings::from_toml(alloc, text)?;
-    let network = Network::from_toml(alloc, text)?;
+/// The outline of a node's document.
+fn read_node(alloc: Global, document: &Document) -> Result<Outline, SettingsFault> {
+    let settings = NodeSettings::from_document(document)?;
+    let network = Network::from_document(alloc, document)?;
     outline_of_node(alloc, &settings, &network).map_err(|_| SettingsFault::NoMemory)
 }
 
-/// The outline of the merger's text.
-fn read_merger(alloc: Global, text: &str) -> Result<Outline, SettingsFault> {
-    let settings = MergerSettings::from_toml(alloc, text)?;
-    let network = Network::from_toml(alloc, text)?;
+/// The outline of the merger's document.
+fn read_merger(alloc: Global, document: &Document) -> Result<Outline, SettingsFault> {
+    let settings = MergerSettings::from_document(document)?;
+    let network = Network::from_document(alloc, document)?;
     outline_of_merger(alloc, &settings, &network).map_err(|_| SettingsFault::NoMemory)
 }
 
-/// The outline of the settings that a text is: those of the merger by the key `node`, and else of a node.
+/// The outline of the settings that a document is: those of the merger by the key `node`, and else of a node.
 ///
 /// # Errors
 ///
 /// What `pdc node` and `pdc merge` refuse it for.
-pub fn read_outline(alloc: Global, text: &str) -> Result<Outline, SettingsFault> {
-    if is_of_merger(alloc, text)? {
-        read_merger(alloc, text)
+pub fn read_outline(alloc: Global, document: &Document) -> Result<Outline, SettingsFault> {
+    if document.is_merger() {
+        read_merger(alloc, document)
     } else {
-        read_node(alloc, text)
+        read_node(alloc, document)
     }
 }

@@ -3,7 +3,11 @@ ghost use Rattle.std.specs.Prelude.{◌≡◌, ◌++◌, ◌==◌, IfOk, OnOk, o
 ghost use Rattle.std.specs.List.{list_any};
 ghost use Rattle.std.specs.Option.{option_to_list};
 ghost use Rattle.pdc_check.specs.Ports.{port_misfits, shared_in};
-ghost use Rattle.pdc_check.specs.Together.{alike, are_among, by_kind, id_of_source, is_first, misfits, not_sent, not_served, of_mark, of_merger, of_node, of_stream, other_mark_rate, other_owner, other_rate, other_sources, other_time_base, preferred, same_id, short_wait, stream_of};
+ghost use Rattle.pdc_check.specs.Together.{alike, are_among, by_kind, id_of_source, is_first};
+ghost use Rattle.pdc_check.specs.Together.{misfits, not_sent, not_served, of_mark, of_merger};
+ghost use Rattle.pdc_check.specs.Together.{of_node, of_stream, other_mark_rate, other_owner};
+ghost use Rattle.pdc_check.specs.Together.{other_rate, other_sources, other_time_base, preferred};
+ghost use Rattle.pdc_check.specs.Together.{same_id, short_wait, stream_of};
 
 use crate::misfit::Misfit;
 use crate::outline::{Outline, Stream};

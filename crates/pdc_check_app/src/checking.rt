@@ -6,7 +6,7 @@ use pdc_check::{
     Level, Misfit, Outline, alike, findings, mark_misfits, misfits, port_findings, port_misfits,
     read_outline,
 };
-use pdc_settings::{Mistake, SettingsFault, mistake_in, unknown_keys};
+use pdc_settings::{Document, Mistake, SettingsFault, mistake_in};
 use std::alloc::Global;
 use std::fs::File;
 use std::rt::Files;
@@ -26,15 +26,14 @@ struct Checked<'a> {
     outline: Outline,
 }
 
-/// Tells the keys of a text that nothing reads.
+/// Tells the keys of a document that nothing reads.
 fn tell_unknown(
     rt: &(impl Print + AllocGlobal),
     totals: &mut Totals,
     file: &str,
-    text: &str,
+    document: &Document,
 ) -> io::Result<()> {
-    // (what is no document is told by who reads it)
-    if let Ok(unknown) = unknown_keys(rt.alloc(), text) {
+    if let Ok(unknown) = document.unknown_keys(rt.alloc()) {
         for key in &unknown {
             tell(rt, totals, Level::Warning, file, key)?;
         }
@@ -110,6 +109,23 @@ fn tell_mark<R: Files<File = File> + Print + AllocGlobal>(
     }
 }
 
+/// Reads the outline of a text, and tells the keys that nothing reads.
+fn outline_of(
+    rt: &(impl Print + AllocGlobal),
+    totals: &mut Totals,
+    file: &str,
+    text: &str,
+) -> io::Result<Result<Outline, SettingsFault>> {
+    let alloc = rt.alloc();
+    match Document::parse(alloc, text) {
+        Ok(document) => {
+            tell_unknown(rt, totals, file, &document)?;
+            Ok(read_outline(alloc, &document))
+        }
+        Err(fault) => Ok(Err(fault)),
+    }
+}
+
 /// Tells what is wrong in a text by itself, and returns its outline where it is settings.
 fn check_text(
     rt: &(impl Print + AllocGlobal),
@@ -117,8 +133,7 @@ fn check_text(
     file: &str,
     text: &str,
 ) -> io::Result<Option<Outline>> {
-    tell_unknown(rt, totals, file, text)?;
-    match read_outline(rt.alloc(), text) {
+    match outline_of(rt, totals, file, text)? {
         Ok(outline) => {
             tell_alone(rt, totals, file, &outline)?;
             Ok(Some(outline))

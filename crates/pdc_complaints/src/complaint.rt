@@ -1,6 +1,8 @@
 //! What a refusal says of a sender.
 ghost use Rattle.std.specs.Prelude.{◌≡◌, None};
-ghost use Rattle.pdc_complaints.specs.Complaint.{complaint_of, count_of, lower_in, lower_than, of_configuration, of_first, only_count, stale, unplaced_in};
+ghost use Rattle.pdc_complaints.specs.Complaint.{complaint_of, count_of, lower_in, lower_than};
+ghost use Rattle.pdc_complaints.specs.Complaint.{of_configuration, of_first, only_count, stale};
+ghost use Rattle.pdc_complaints.specs.Complaint.{unplaced_in};
 
 use crate::expected::Expected;
 use crate::said::{Said, SaidConfiguration, SaidSection};

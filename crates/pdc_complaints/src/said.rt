@@ -64,7 +64,8 @@ fn section_said(section: &SectionView<'_>) -> SaidSection
 /// Appends what these sections say.
 fn append_sections(sections: &[SectionView<'_>], others: &mut ArrayVec<SaidSection, MAX_PMUS>)
     requires room { length others.old.items + length sections.now ≤ MAX_PMUS }
-    ensures { others.new.items ≡ others.old.items ++ map section_said (map fields_of_view sections.now) }
+    ensures { others.new.items ≡ others.old.items ++
+        map section_said (map fields_of_view sections.now) }
 {
     if let Some((section, later)) = sections.split_first() {
         others.push(section_said(section));

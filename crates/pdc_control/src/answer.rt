@@ -29,7 +29,8 @@ impl Head {
 /// The head that these bytes begin with, and what is behind it.
 pub fn split_head(bytes: &[u8]) -> Option<(Head, &[u8])>
     ensures found { IfSome result (λ it. bytes.now ≡ head_of it.0 ++ it.1.now) }
-    ensures none { IfNone result ((head : Head) (rest : List ℕ) → bytes.now ≡ head_of head ++ rest → ⊥) }
+    ensures none { IfNone result ((head : Head) (rest : List ℕ) → bytes.now ≡ head_of head ++ rest →
+        ⊥) }
 {
     if let Some(rest) = bytes.strip_prefix(b"done\n".as_slice()) {
         Some((Head::Done, rest))

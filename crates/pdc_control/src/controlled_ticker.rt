@@ -6,14 +6,15 @@ use crate::json::status_object;
 use crate::lines::status_lines;
 use crate::request::Form;
 use pdc_journal::RunCounters;
-use pdc_ports::{Did, Ticker, Told};
+use pdc_ports::{Did, Progress, Ticker};
 use std::alloc::Global;
 use std::sync::Wait;
 
 /// The next tick of the inner ticker. Where the run is to stop there is none, and the inner one is not asked.
 pub fn next_unless<K: Ticker>(is_stopped: bool, inner: &mut K) -> Option<u64>
     ensures stopped { is_stopped ≡ true → (result ≡ None) × (inner.new ≡ inner.old) }
-    ensures some { IfSome result (λ now. (nows : List ℕ) → K.gave inner.old nows → K.gave inner.new (nows ++ now ∷ [])) }
+    ensures some { IfSome result (λ now. (nows : List ℕ) → K.gave inner.old nows →
+        K.gave inner.new (nows ++ now ∷ [])) }
     ensures none { IfNone result ((nows : List ℕ) → K.gave inner.old nows → K.gave inner.new nows) }
 {
     if is_stopped {
@@ -54,7 +55,7 @@ impl<'a, K: Ticker + Drop, R: Wait> ControlledTicker<'a, K, R> {
     }
 
     /// Gives how the run stands to who waits for it, if anybody does.
-    fn give(&self, told: &Told) {
+    fn give(&self, told: &Progress) {
         let Some(control) = self.control else {
             return;
         };
@@ -96,7 +97,7 @@ impl<'a, K: Ticker + Drop, R: Wait> Ticker for ControlledTicker<'a, K, R> {
         is_asked || self.inner.wants_counts()
     }
 
-    fn tell(&mut self, told: &Told) {
+    fn tell(&mut self, told: &Progress) {
         if self.inner.wants_counts() {
             self.inner.tell(told);
         }

@@ -1,7 +1,7 @@
 //! How a run stands, as a JSON object.
 
 use pdc_journal::{LeftOut, MergedSource, Of, OutputTally, Refusal, RunCounters, Tally};
-use pdc_ports::{Counts, Told};
+use pdc_ports::{Counts, Progress};
 use std::alloc::{AllocError, Global};
 use std::fmt::Write;
 use std::sync::Wait;
@@ -140,7 +140,7 @@ fn append_all_left_out<R: Wait>(
 pub fn status_object<R: Wait>(
     rt: &R,
     alloc: Global,
-    told: &Told,
+    told: &Progress,
     counters: &RunCounters<'_>,
 ) -> Result<String, AllocError> {
     let mut text = String::from_str(alloc, "{")?;

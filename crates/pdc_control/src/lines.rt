@@ -4,7 +4,7 @@ use pdc_journal::{
     LeftOut, OutputTally, RunCounters, Tally, counters_line, left_out_line, lost_line,
     missing_line, output_line, strangers_line, tally_line,
 };
-use pdc_ports::Told;
+use pdc_ports::Progress;
 use std::alloc::{AllocError, Global};
 use std::sync::Wait;
 use std::sync::atomic::Ordering;
@@ -75,7 +75,7 @@ fn append_left_out<R: Wait>(
 pub fn status_lines<R: Wait>(
     rt: &R,
     alloc: Global,
-    told: &Told,
+    told: &Progress,
     counters: &RunCounters<'_>,
 ) -> Result<String, AllocError> {
     let mut text = String::new(alloc);

@@ -1,5 +1,6 @@
 //! What a node and the merger are to the programs that run them.
-ghost use Rattle.std.specs.Prelude.{◌≡◌, ◌≤◌, ◌<◌, ◌+◌, ◌*◌, ◌++◌, ◌∷◌, ℕ, IfSome, IsOk, List, OnErr, OnOk, false, length, option_map, true};
+ghost use Rattle.std.specs.Prelude.{◌≡◌, ◌≤◌, ◌<◌, ◌+◌, ◌*◌, ◌++◌, ◌∷◌, ℕ, IfSome, IsOk, List};
+ghost use Rattle.std.specs.Prelude.{OnErr, OnOk, false, length, option_map, true};
 ghost use Rattle.pdc_memory.specs.Asking.{ForSome};
 ghost use Rattle.pdc_align.specs.Align.{ticked_of};
 ghost use Rattle.pdc_align.specs.pdc_arrival.Counts.{after_answer, counts_after};
@@ -8,8 +9,11 @@ ghost use Rattle.pdc_core.specs.Alike.{AreAlike};
 ghost use Rattle.pdc_core.specs.Core.{Hears};
 ghost use Rattle.pdc_core.specs.KeptArrival.{taken_view};
 ghost use Rattle.pdc_align.specs.Popped.{popped_after};
-ghost use Rattle.pdc_core.specs.Step.{IsOf, Tells, answers, counted_by, is_allowed, popped_by, rises_by};
-ghost use Rattle.pdc_align.specs.pdc_life.Answer.{IsReadStep, ReadStep, Rules, ToArrive, ToPop, ToTick, answered, pop_answer, tick_answer, waiting_counts};
+ghost use Rattle.pdc_core.specs.Step.{IsOf, Tells, answers, counted_by, is_allowed, popped_by};
+ghost use Rattle.pdc_core.specs.Step.{rises_by};
+ghost use Rattle.pdc_align.specs.pdc_life.Answer.{IsReadStep, ReadStep, Rules, ToArrive, ToPop};
+ghost use Rattle.pdc_align.specs.pdc_life.Answer.{ToTick, answered, pop_answer, tick_answer};
+ghost use Rattle.pdc_align.specs.pdc_life.Answer.{waiting_counts};
 ghost use Rattle.pdc_align.specs.pdc_life.Given.{Given};
 ghost use Rattle.pdc_align.specs.pdc_life.Life.{Entry, changes, popped};
 ghost use Rattle.pdc_align.specs.pdc_life.Published.{layout_wire};
@@ -54,11 +58,15 @@ pub trait Core {
 
     /// Answers what arrived for a stream, and takes it where it is to be taken.
     fn arrive(&mut self, stream: usize, arrival: &Arrival<'_>) -> Outcome
-        requires { Self.Settings.fits (settings_of self.old) stream (arrival_view arrival.now) ≡ true }
+        requires { Self.Settings.fits (settings_of self.old) stream (arrival_view arrival.now) ≡
+            true }
         ensures answer { (g : Given) (E : List Entry) → stands_for self.old g E →
             result ≡ (rules g E stream (arrival_view arrival.now)).outcome }
-        ensures stands { (g : Given) (E : List Entry) (bytes : List ℕ) → Self.Settings.says (settings_of self.old) stream bytes (arrival_view arrival.now) →
-            stands_for self.old g E → stands_for self.new g (answered rules g E (ToArrive stream bytes (arrival_view arrival.now)) ∷ E) }
+        ensures stands { (g : Given) (E : List Entry) (bytes : List ℕ) →
+            Self.Settings.says (settings_of self.old) stream bytes (arrival_view arrival.now) →
+            stands_for self.old g E →
+            stands_for self.new g (answered rules g E
+            (ToArrive stream bytes (arrival_view arrival.now)) ∷ E) }
         ensures counts { counts_of self.new ≡ after_answer result (counts_of self.old) }
         ensures popped { popped_of self.new ≡ popped_of self.old }
         ensures settings { settings_of self.new ≡ settings_of self.old }
@@ -69,8 +77,11 @@ pub trait Core {
         requires { Self.Settings.fits (settings_of self.old) stream (taken_view taken.now) ≡ true }
         ensures answer { (g : Given) (E : List Entry) → stands_for self.old g E →
             result ≡ (rules g E stream (taken_view taken.now)).outcome }
-        ensures stands { (g : Given) (E : List Entry) (bytes : List ℕ) → Self.Settings.says (settings_of self.old) stream bytes (taken_view taken.now) →
-            stands_for self.old g E → stands_for self.new g (answered rules g E (ToArrive stream bytes (taken_view taken.now)) ∷ E) }
+        ensures stands { (g : Given) (E : List Entry) (bytes : List ℕ) →
+            Self.Settings.says (settings_of self.old) stream bytes (taken_view taken.now) →
+            stands_for self.old g E →
+            stands_for self.new g (answered rules g E
+            (ToArrive stream bytes (taken_view taken.now)) ∷ E) }
         ensures counts { counts_of self.new ≡ after_answer result (counts_of self.old) }
         ensures popped { popped_of self.new ≡ popped_of self.old }
         ensures settings { settings_of self.new ≡ settings_of self.old }
@@ -82,7 +93,8 @@ pub trait Core {
 
     /// A tick: the instant that is now, and for each column the count up to which a section may be adopted.
     fn tick(&mut self, now: u64, counts: &[u16; MAX_PMUS]) -> Ticked
-        ensures answer { (g : Given) (E : List Entry) → stands_for self.old g E → result ≡ ticked_of (changes E) (tick_answer g E now counts.now) }
+        ensures answer { (g : Given) (E : List Entry) → stands_for self.old g E →
+            result ≡ ticked_of (changes E) (tick_answer g E now counts.now) }
         ensures stands { (g : Given) (E : List Entry) → stands_for self.old g E →
             stands_for self.new g (answered rules g E (ToTick now counts.now) ∷ E) }
         ensures counts { counts_of self.new ≡ counts_of self.old }
@@ -92,36 +104,49 @@ pub trait Core {
 
     /// The lowest row that closed and was not popped.
     fn pop_due(&mut self) -> Option<DueRow>
-        ensures answer { (g : Given) (E : List Entry) → stands_for self.old g E → option_map row_view result ≡ pop_answer E }
+        ensures answer { (g : Given) (E : List Entry) → stands_for self.old g E →
+            option_map row_view result ≡ pop_answer E }
         // Its instant is above the floor and above all that were popped before, and can be tagged.
         ensures next { (g : Given) (E : List Entry) → stands_for self.old g E →
-            IfSome result (λ row. (g.floor < row.instant) × AreBelow row.instant (row_instants (popped E)) × (row.instant < SECONDS * g.output.rate)) }
-        ensures stands { (g : Given) (E : List Entry) → stands_for self.old g E → stands_for self.new g (answered rules g E ToPop ∷ E) }
+            IfSome result (λ row. (g.floor < row.instant)
+            × AreBelow row.instant (row_instants (popped E))
+            × (row.instant < SECONDS * g.output.rate)) }
+        ensures stands { (g : Given) (E : List Entry) → stands_for self.old g E →
+            stands_for self.new g (answered rules g E ToPop ∷ E) }
         ensures counts { counts_of self.new ≡ counts_of self.old }
         ensures rises { IfSome result (λ row. popped_of self.old < row.instant) }
-        ensures popped { popped_of self.new ≡ popped_after (option_map row_view result) (popped_of self.old) }
+        ensures popped { popped_of self.new ≡
+            popped_after (option_map row_view result) (popped_of self.old) }
         ensures settings { settings_of self.new ≡ settings_of self.old }
         ensures memory { memory self.new ≡ memory self.old };
 
     /// Takes the lowest row that closed and was not popped, and writes it over this one. Whether there was one; else the row stays.
     fn pop_into(&mut self, row: &mut DueRow) -> bool
-        ensures answer { (g : Given) (E : List Entry) → stands_for self.old g E → popped_into result row.new ≡ pop_answer E }
+        ensures answer { (g : Given) (E : List Entry) → stands_for self.old g E →
+            popped_into result row.new ≡ pop_answer E }
         ensures none { result ≡ false → row.new ≡ row.old }
         // Its instant is above the floor and above all that were popped before, and can be tagged.
         ensures next { (g : Given) (E : List Entry) → stands_for self.old g E →
-            IfSome (popped_into result row.new) (λ (row : RowView). (g.floor < row.instant) × AreBelow row.instant (row_instants (popped E)) × (row.instant < SECONDS * g.output.rate)) }
-        ensures stands { (g : Given) (E : List Entry) → stands_for self.old g E → stands_for self.new g (answered rules g E ToPop ∷ E) }
+            IfSome (popped_into result row.new) (λ (row : RowView). (g.floor < row.instant)
+            × AreBelow row.instant (row_instants (popped E))
+            × (row.instant < SECONDS * g.output.rate)) }
+        ensures stands { (g : Given) (E : List Entry) → stands_for self.old g E →
+            stands_for self.new g (answered rules g E ToPop ∷ E) }
         ensures counts { counts_of self.new ≡ counts_of self.old }
-        ensures rises { IfSome (popped_into result row.new) (λ (row : RowView). popped_of self.old < row.instant) }
-        ensures popped { popped_of self.new ≡ popped_after (popped_into result row.new) (popped_of self.old) }
+        ensures rises { IfSome (popped_into result row.new)
+            (λ (row : RowView). popped_of self.old < row.instant) }
+        ensures popped { popped_of self.new ≡
+            popped_after (popped_into result row.new) (popped_of self.old) }
         ensures settings { settings_of self.new ≡ settings_of self.old }
         ensures memory { memory self.new ≡ memory self.old };
 
     /// The instant of the lowest row that closed and was not popped.
     fn next_due(&self) -> Option<u64>
-        ensures answer { (g : Given) (E : List Entry) → stands_for self.now g E → result ≡ option_map (λ row. row.instant) (pop_answer E) }
+        ensures answer { (g : Given) (E : List Entry) → stands_for self.now g E →
+            result ≡ option_map (λ row. row.instant) (pop_answer E) }
         // It can be tagged.
-        ensures tagged { (g : Given) (E : List Entry) → stands_for self.now g E → IfSome result (λ instant. instant < SECONDS * g.output.rate) };
+        ensures tagged { (g : Given) (E : List Entry) → stands_for self.now g E →
+            IfSome result (λ instant. instant < SECONDS * g.output.rate) };
 
     /// Whether the lowest open instant is whole: each stream that it waits for has come. Where none is open, none is.
     fn is_whole(&self) -> bool
@@ -133,28 +158,35 @@ pub trait Core {
     ///
     /// [`AllocError`] where `out` has no room and gets none.
     fn layout_frame<B: Buffer>(&self, soc: u32, out: &mut B) -> Result<(), AllocError>
-        ensures ok { (g : Given) (E : List Entry) → stands_for self.now g E → OnOk result (B.content out.new ≡ B.content out.old ++ layout_wire g E soc) }
-        ensures err { OnErr result ((B.content out.new ≡ B.content out.old) × (B.capacity out.new ≡ B.capacity out.old)) }
+        ensures ok { (g : Given) (E : List Entry) → stands_for self.now g E →
+            OnOk result (B.content out.new ≡ B.content out.old ++ layout_wire g E soc) }
+        ensures err { OnErr result ((B.content out.new ≡ B.content out.old)
+            × (B.capacity out.new ≡ B.capacity out.old)) }
         ensures room { (g : Given) (E : List Entry) → stands_for self.now g E →
-            length (B.content out.old) + length (layout_wire g E soc) ≤ B.capacity out.old → IsOk result }
+            length (B.content out.old) + length (layout_wire g E soc) ≤ B.capacity out.old →
+            IsOk result }
         ensures refused { OnErr result (ForSome (B.refused out.new)) }
         ensures in_place { (g : Given) (E : List Entry) → stands_for self.now g E →
-            length (B.content out.old) + length (layout_wire g E soc) ≤ B.capacity out.old → B.capacity out.new ≡ B.capacity out.old }
+            length (B.content out.old) + length (layout_wire g E soc) ≤ B.capacity out.old →
+            B.capacity out.new ≡ B.capacity out.old }
         ensures capacity { B.capacity out.old ≤ B.capacity out.new };
 
     /// How arrivals were answered.
     fn counts(&self) -> Counts
         ensures value { result ≡ counts_of self.now }
-        ensures life { (g : Given) (E : List Entry) → stands_for self.now g E → result ≡ counts_after E };
+        ensures life { (g : Given) (E : List Entry) → stands_for self.now g E →
+            result ≡ counts_after E };
 
     /// For each column the count that waits to be stored.
     fn waiting(&self) -> [u16; MAX_PMUS]
-        ensures { (g : Given) (E : List Entry) → stands_for self.now g E → result ≡ waiting_counts g E };
+        ensures { (g : Given) (E : List Entry) → stands_for self.now g E →
+            result ≡ waiting_counts g E };
 
     /// Makes this core stand for each life that the other one stands for. Both were opened alike.
     fn copy_from(&mut self, other: &Self)
         requires { ∥ AreAlike (stands_for self.old) (stands_for other.now) ∥₁ }
-        ensures stands { (g : Given) (E : List Entry) → stands_for other.now g E → stands_for self.new g E }
+        ensures stands { (g : Given) (E : List Entry) → stands_for other.now g E →
+            stands_for self.new g E }
         ensures counts { counts_of self.new ≡ counts_of other.now }
         ensures popped { popped_of self.new ≡ popped_of other.now }
         ensures settings { settings_of self.new ≡ settings_of other.now }
@@ -163,10 +195,12 @@ pub trait Core {
     /// Makes a step: what arrived is answered, a tick ticks, or a row is taken out.
     fn apply(&mut self, step: &CoreStep) -> Reply
         requires { is_allowed (Self.Settings.fits (settings_of self.old)) step.now ≡ true }
-        ensures answer { (g : Given) (E : List Entry) (read : ReadStep) → IsOf step.now read → stands_for self.old g E →
+        ensures answer { (g : Given) (E : List Entry) (read : ReadStep) → IsOf step.now read →
+            stands_for self.old g E →
             Tells E (answered rules g E read) result }
         ensures kind { answers step.now result ≡ true }
-        ensures stands { (g : Given) (E : List Entry) (read : ReadStep) → IsOf step.now read → IsReadStep (Self.Settings.says (settings_of self.old)) read →
+        ensures stands { (g : Given) (E : List Entry) (read : ReadStep) → IsOf step.now read →
+            IsReadStep (Self.Settings.says (settings_of self.old)) read →
             stands_for self.old g E → stands_for self.new g (answered rules g E read ∷ E) }
         ensures counts { counts_of self.new ≡ counted_by result (counts_of self.old) }
         ensures rises { rises_by result (popped_of self.old) ≡ true }
@@ -184,7 +218,8 @@ pub trait Core {
     /// Answers the bytes of a datagram that came for a stream: what they say is read, and arrives.
     fn put_datagram(&mut self, stream: usize, bytes: &[u8]) -> Outcome
         requires { stream < Self.Settings.streams (settings_of self.old) }
-        ensures hears { Hears (Self.Settings.says (settings_of self.old)) rules (stands_for self.old) (stands_for self.new) stream bytes.now result }
+        ensures hears { Hears (Self.Settings.says (settings_of self.old)) rules
+            (stands_for self.old) (stands_for self.new) stream bytes.now result }
         ensures counts { counts_of self.new ≡ after_answer result (counts_of self.old) }
         ensures popped { popped_of self.new ≡ popped_of self.old }
         ensures settings { settings_of self.new ≡ settings_of self.old }

@@ -1,12 +1,15 @@
 //! What arrived, with its bytes kept: it can be handed on where what was read would not live.
-ghost use Rattle.std.specs.Prelude.{◌≡◌, ◌≤◌, IfOk, IsOk, OnErr, length, map, true};
+ghost use Rattle.std.specs.Prelude.{◌≡◌, ◌≤◌, [], ◌∷◌, IfOk, IsOk, None, OnErr, length, map, true};
 ghost use Rattle.pdc_core.specs.KeptArrival.{kept_part, taken_view, takes_no_memory, wanted_of};
 ghost use Rattle.pdc_memory.specs.Asking.{WasRefused};
 ghost use Rattle.pdc_align.specs.pdc_arrival.Views.{arrival_view, section_part};
+ghost use Rattle.pdc_align.specs.pdc_life.Arrival.{Layout};
+ghost use Rattle.pdc_align.specs.pdc_cfg.Section.{fields_of_view};
+ghost use Rattle.pdc_align.specs.pdc_life.Views.{arrival_view as reading_view};
 
 use crate::{KeptLayout, KeptSection, Payload};
 use arrayvec::ArrayVec;
-use pdc_align::{Arrival, ColumnSection, MAX_PMUS, Refusal};
+use pdc_align::{Arrival, ColumnSection, MAX_PMUS, Reading, Refusal, SectionView};
 use pdc_memory::Held;
 use std::alloc::{AllocError, Global};
 
@@ -31,7 +34,8 @@ pub enum KeptArrival {
 /// Copies of the sections.
 fn kept(alloc: Global, sections: &[ColumnSection<'_>]) -> Result<Held<KeptSection>, AllocError>
     ensures refused { OnErr result (WasRefused (length sections.now)) }
-    ensures copies { IfOk result (λ copies. map kept_part copies.items ≡ map section_part sections.now) }
+    ensures copies { IfOk result (λ copies. map kept_part copies.items ≡
+        map section_part sections.now) }
 {
     let mut copies = Held::with_capacity(alloc, sections.len())?;
     for part in sections {
@@ -41,6 +45,41 @@ fn kept(alloc: Global, sections: &[ColumnSection<'_>]) -> Result<Held<KeptSectio
         });
     }
     Ok(copies)
+}
+
+/// A copy of this section alone.
+fn alone(
+    alloc: Global,
+    column: usize,
+    section: &SectionView<'_>,
+) -> Result<Held<KeptSection>, AllocError>
+    ensures refused { OnErr result (WasRefused 1) }
+    ensures copies { IfOk result (λ copies. map kept_part copies.items ≡
+        (column, fields_of_view section.now) ∷ []) }
+{
+    let mut copies = Held::with_capacity(alloc, 1)?;
+    copies.push(KeptSection {
+        column,
+        section: section.to_section(),
+    });
+    Ok(copies)
+}
+
+/// A copy of a PMU's configuration: a layout of one section, with no stamp.
+#[inline(never)]
+fn keep_configuration(
+    alloc: Global,
+    column: usize,
+    section: &SectionView<'_>,
+) -> Result<KeptArrival, AllocError>
+    ensures refused { OnErr result (WasRefused 1) }
+    ensures same { IfOk result (λ taken. taken_view taken ≡
+        Layout None ((column, fields_of_view section.now) ∷ [])) }
+{
+    Ok(KeptArrival::Layout(KeptLayout {
+        stamp: None,
+        sections: alone(alloc, column, section)?,
+    }))
 }
 
 /// The sections as they were read.
@@ -84,6 +123,35 @@ impl KeptArrival {
                 stamp: *stamp,
                 sections: kept(alloc, sections.as_slice())?,
             })),
+        }
+    }
+
+    /// A copy of what is read of a PMU, whose configuration is of this column.
+    ///
+    /// # Errors
+    ///
+    /// [`AllocError`] where there is no memory. Refused bytes and data of at most 214 bytes take none.
+    pub fn keep_reading(
+        alloc: Global,
+        column: usize,
+        reading: &Reading<'_>,
+    ) -> Result<KeptArrival, AllocError>
+        ensures same { IfOk result (λ taken. taken_view taken ≡ reading_view column reading.now) }
+        ensures refused { OnErr result (WasRefused (wanted_of (reading_view column reading.now))) }
+        ensures in_place { takes_no_memory (reading_view column reading.now) ≡ true → IsOk result }
+    {
+        match reading {
+            Reading::BytesRefused(refusal) => Ok(KeptArrival::BytesRefused(*refusal)),
+            Reading::Data {
+                instant,
+                quality,
+                payload,
+            } => Ok(KeptArrival::Data {
+                instant: *instant,
+                quality: *quality,
+                payload: Payload::of(alloc, payload)?,
+            }),
+            Reading::Configuration(section) => keep_configuration(alloc, column, section),
         }
     }
 

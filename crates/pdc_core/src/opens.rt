@@ -20,7 +20,8 @@ pub trait Opens: Core + Drop {
     /// What its frames say of itself.
     fn output(&self) -> Output
         ensures settings { result ≡ output_of (Self.settings_of self.now) }
-        ensures life { (g : Given) (E : List Entry) → Self.stands_for self.now g E → result ≡ g.output };
+        ensures life { (g : Given) (E : List Entry) → Self.stands_for self.now g E →
+            result ≡ g.output };
 
     /// A core of these settings at the start of a life: the number of the start, the instant up to which all is published, and
     /// for each column the count below which no section is held.
@@ -35,7 +36,8 @@ pub trait Opens: Core + Drop {
         floor: u64,
         counts: &[u16; MAX_PMUS],
     ) -> Result<Self, AllocError>
-        ensures stands { IfOk result (λ first. Self.stands_for first (given_with settings start floor counts.now) []) }
+        ensures stands { IfOk result (λ first. Self.stands_for first
+            (given_with settings start floor counts.now) []) }
         ensures settings { IfOk result (λ first. Self.settings_of first ≡ settings) }
         ensures popped { IfOk result (λ first. Self.popped_of first ≡ floor) }
         ensures refused { OnErr result SomeWasRefused };
@@ -53,7 +55,8 @@ pub trait Opens: Core + Drop {
         floor: u64,
         counts: &[u16; MAX_PMUS],
     ) -> Result<Self, AllocError>
-        ensures stands { IfOk result (λ next. Self.stands_for next (given_with (Self.settings_of self.now) start floor counts.now) []) }
+        ensures stands { IfOk result (λ next. Self.stands_for next
+            (given_with (Self.settings_of self.now) start floor counts.now) []) }
         ensures settings { IfOk result (λ next. Self.settings_of next ≡ Self.settings_of self.now) }
         ensures popped { IfOk result (λ next. Self.popped_of next ≡ floor) }
         ensures refused { OnErr result SomeWasRefused };

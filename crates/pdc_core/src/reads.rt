@@ -1,13 +1,18 @@
 //! Settings by which bytes are read.
 ghost use Rattle.std.specs.Prelude.{◌≡◌, ◌<◌, ℕ, Bool, IfOk, List, length, true};
 ghost use Rattle.pdc_core.specs.Fits.{fits_merger, fits_node};
+ghost use Rattle.pdc_align.specs.pdc_arrival.Heard.{HearsForMerger};
 ghost use Rattle.pdc_core.specs.KeptArrival.{taken_view};
 ghost use Rattle.pdc_align.specs.pdc_life.Arrival.{Arrival};
 ghost use Rattle.pdc_align.specs.pdc_life.CoreKind.{OfMerger, OfNode, Says};
 ghost use Rattle.pdc_align.specs.pdc_arrival.Views.{arrival_view};
+ghost use Rattle.pdc_align.specs.pdc_arrival.declared.from_node.TheConstants.{NODES};
 
-use crate::KeptArrival;
-use pdc_align::{Arrival, MergerSettings, Settings, read_from_node, read_from_pmu};
+use crate::{KeptArrival, Payload};
+use pdc_align::{
+    Arrival, Heard, MergerSettings, Settings, arrival_from_node, hear_from_node, hear_from_pmu,
+    read_from_node, read_from_pmu,
+};
 use std::alloc::{AllocError, Global};
 
 /// Settings by which the bytes of a datagram are read, whatever came before. It takes no memory.
@@ -21,7 +26,8 @@ pub trait Reads {
     // and all that they say passes this test.
     ghost fits: { Self → ℕ → Arrival → Bool };
 
-    ghost said_fits: { (settings : Self) (s : ℕ) (bytes : List ℕ) (arrival : Arrival) → says settings s bytes arrival → fits settings s arrival ≡ true };
+    ghost said_fits: { (settings : Self) (s : ℕ) (bytes : List ℕ) (arrival : Arrival) →
+        says settings s bytes arrival → fits settings s arrival ≡ true };
 
     /// What the bytes say that came for the stream with this number.
     fn read<'a>(&self, stream: usize, bytes: &'a [u8]) -> Arrival<'a>
@@ -63,6 +69,16 @@ impl Reads for Settings {
     fn read<'a>(&self, stream: usize, bytes: &'a [u8]) -> Arrival<'a> {
         read_from_pmu(self, stream, bytes)
     }
+
+    fn read_kept(
+        &self,
+        alloc: Global,
+        stream: usize,
+        bytes: &[u8],
+    ) -> Result<KeptArrival, AllocError> {
+        let reading = hear_from_pmu(self, stream, bytes);
+        KeptArrival::keep_reading(alloc, stream, &reading)
+    }
 }
 
 /// The merger's: a stream comes from each of two nodes.
@@ -81,4 +97,40 @@ impl Reads for MergerSettings {
     fn read<'a>(&self, stream: usize, bytes: &'a [u8]) -> Arrival<'a> {
         read_from_node(self, stream, bytes)
     }
+
+    fn read_kept(
+        &self,
+        alloc: Global,
+        stream: usize,
+        bytes: &[u8],
+    ) -> Result<KeptArrival, AllocError> {
+        match hear_from_node(self, stream, bytes) {
+            Heard::Data {
+                instant,
+                quality,
+                payload,
+            } => Ok(KeptArrival::Data {
+                instant,
+                quality,
+                payload: Payload::of(alloc, payload)?,
+            }),
+            heard => keep_heard(self, alloc, stream, heard),
+        }
+    }
+}
+
+/// What was heard of a node, kept. It stands apart, so that data wants no room for what a configuration says.
+#[inline(never)]
+fn keep_heard(
+    settings: &MergerSettings,
+    alloc: Global,
+    stream: usize,
+    heard: Heard<'_>,
+) -> Result<KeptArrival, AllocError>
+    requires { stream < NODES }
+    ensures { (bytes : List ℕ) → HearsForMerger settings.now stream bytes heard.entry →
+        IfOk result (λ taken. Says (OfMerger settings.now) stream bytes (taken_view taken)) }
+{
+    let arrival = arrival_from_node(settings, stream, heard);
+    KeptArrival::keep(alloc, &arrival)
 }

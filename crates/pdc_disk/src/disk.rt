@@ -1,6 +1,8 @@
 //! What a disk is to whoever stores on it: the bytes that reads give, and which of them a stop leaves.
-ghost use Rattle.std.specs.Prelude.{◌≡◌, ◌+◌, ◌<◌, ◌≤◌, ℕ, Bool, List, length, IsOk, IfOk, OnOk, slice_range};
-ghost use Rattle.pdc_disk.specs.Disk.{written, AllSettled, HasCause, IsTorn, StaySettled, StaySettledBut};
+ghost use Rattle.std.specs.Prelude.{◌≡◌, ◌+◌, ◌<◌, ◌≤◌, ℕ, Bool, List, length, IsOk, IfOk, OnOk};
+ghost use Rattle.std.specs.Prelude.{slice_range};
+ghost use Rattle.pdc_disk.specs.Disk.{written, AllSettled, HasCause, IsTorn, StaySettled};
+ghost use Rattle.pdc_disk.specs.Disk.{StaySettledBut};
 
 use thiserror::Error;
 
@@ -42,7 +44,8 @@ pub trait Disk {
     /// Fills `out` with the bytes from `at` on, counted from 0. After a fault `out` holds any bytes.
     fn read_at(&mut self, at: u64, out: &mut [u8]) -> Result<(), DiskFault>
         requires { at + length out.old ≤ length (seen self.old) }
-        ensures bytes { OnOk result (out.new ≡ slice_range (seen self.old) at (at + length out.old)) }
+        ensures bytes { OnOk result (out.new ≡
+            slice_range (seen self.old) at (at + length out.old)) }
         ensures seen { seen self.new ≡ seen self.old }
         ensures settled { StaySettled (is_settled self.old) (is_settled self.new) }
         ensures cause { HasCause (failures self.old) (failures self.new) result }

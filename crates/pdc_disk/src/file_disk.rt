@@ -1,7 +1,9 @@
 //! A real file as a disk. What it is known to hold stands beside it, since no contract can see a file.
-ghost use Rattle.std.specs.Prelude.{◌≡◌, ◌⊎◌, ◌+◌, ◌<◌, ◌≤◌, ◌^◌, ◌↔◌, false, true, [], length, slice_range, IfOk, IsTrue, OnOk};
+ghost use Rattle.std.specs.Prelude.{◌≡◌, ◌⊎◌, ◌+◌, ◌<◌, ◌≤◌, ◌^◌, ◌↔◌, false, true, [], length};
+ghost use Rattle.std.specs.Prelude.{slice_range, IfOk, IsTrue, OnOk};
 ghost use Rattle.pdc_disk.specs.declared.memory_disk.TheConstants.{MEMORY_LEN};
-ghost use Rattle.pdc_disk.specs.Disk.{written, AllSettled, HasCause, HasFailed, IsTorn, StaySettled, StaySettledBut};
+ghost use Rattle.pdc_disk.specs.Disk.{written, AllSettled, HasCause, HasFailed, IsTorn};
+ghost use Rattle.pdc_disk.specs.Disk.{StaySettled, StaySettledBut};
 ghost use Rattle.pdc_disk.specs.MemoryDisk as memory;
 
 use crate::disk::{Disk, DiskFault};
@@ -135,7 +137,8 @@ fn lose(is_lost: &mut bool, failures: &mut u64) -> DiskFault
 }
 
 impl Disk for FileDisk {
-    ghost use Rattle.pdc_disk.specs.FileDisk.{failures_of, is_lost_of, is_settled_at, seen_of, IsTried, IsUntouched, LosesTrack};
+    ghost use Rattle.pdc_disk.specs.FileDisk.{failures_of, is_lost_of, is_settled_at, seen_of};
+    ghost use Rattle.pdc_disk.specs.FileDisk.{IsTried, IsUntouched, LosesTrack};
 
     ghost seen = { seen_of };
 

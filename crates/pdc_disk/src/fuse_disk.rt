@@ -1,6 +1,8 @@
 //! A disk that fails from a chosen call on, for tests of every place at which a device may fail.
-ghost use Rattle.std.specs.Prelude.{◌≡◌, ◌+◌, ◌-◌, ◌<◌, ◌≤◌, ◌↔◌, length, slice_range, IfOk, IsErr, OnOk};
-ghost use Rattle.pdc_disk.specs.Disk.{written, AllSettled, HasCause, IsTorn, StaySettled, StaySettledBut};
+ghost use Rattle.std.specs.Prelude.{◌≡◌, ◌+◌, ◌-◌, ◌<◌, ◌≤◌, ◌↔◌, length, slice_range, IfOk};
+ghost use Rattle.std.specs.Prelude.{IsErr, OnOk};
+ghost use Rattle.pdc_disk.specs.Disk.{written, AllSettled, HasCause, IsTorn, StaySettled};
+ghost use Rattle.pdc_disk.specs.Disk.{StaySettledBut};
 
 use crate::disk::{Disk, DiskFault};
 

@@ -1,7 +1,10 @@
 //! A small disk in memory, which also shows what a stop would leave of it.
-ghost use Rattle.std.specs.Prelude.{◌≡◌, ◌⊎◌, ◌+◌, ◌<◌, ◌≤◌, ℕ, false, true, IsTrue, length, slice_index, slice_index_or, IsErr, IsOk, IsOkAnd, OnOk, OnErr, slice_range, ◌↔◌, if◌then◌else◌};
+ghost use Rattle.std.specs.Prelude.{◌≡◌, ◌⊎◌, ◌+◌, ◌<◌, ◌≤◌, ℕ, false, true, IsTrue, length};
+ghost use Rattle.std.specs.Prelude.{slice_index, slice_index_or, IsErr, IsOk, IsOkAnd, OnOk};
+ghost use Rattle.std.specs.Prelude.{OnErr, slice_range, ◌↔◌, if◌then◌else◌};
 ghost use Rattle.pdc_disk.specs.declared.memory_disk.TheConstants.{MEMORY_LEN};
-ghost use Rattle.pdc_disk.specs.Disk.{written, AllSettled, HasCause, IsImage, IsTorn, StaySettled, StaySettledBut};
+ghost use Rattle.pdc_disk.specs.Disk.{written, AllSettled, HasCause, IsImage, IsTorn};
+ghost use Rattle.pdc_disk.specs.Disk.{StaySettled, StaySettledBut};
 
 use crate::disk::{Disk, DiskFault};
 
@@ -37,7 +40,8 @@ pub struct MemoryDisk {
 }
 
 impl MemoryDisk {
-    ghost use Rattle.pdc_disk.specs.MemoryDisk.{failures_of, is_settled_at, seen_of, synced_of, IsLanded};
+    ghost use Rattle.pdc_disk.specs.MemoryDisk.{failures_of, is_settled_at, seen_of, synced_of};
+    ghost use Rattle.pdc_disk.specs.MemoryDisk.{IsLanded};
 
     /// A disk with these bytes, which a stop leaves as they are.
     pub fn new(bytes: &[u8]) -> Self
@@ -129,7 +133,8 @@ fn settle(settled: &mut [bool])
 }
 
 impl Disk for MemoryDisk {
-    ghost use Rattle.pdc_disk.specs.MemoryDisk.{failures_of, is_settled_at, seen_of, synced_of, IsUntouched, IsWritten};
+    ghost use Rattle.pdc_disk.specs.MemoryDisk.{failures_of, is_settled_at, seen_of, synced_of};
+    ghost use Rattle.pdc_disk.specs.MemoryDisk.{IsUntouched, IsWritten};
 
     ghost seen = { seen_of };
 

@@ -4,6 +4,7 @@ use crate::exporter::{Exported, Exporter, Format};
 use crate::fault::ExportFault;
 use crate::objects::append_refusal;
 use hex::FromHexError;
+use memchr::memchr;
 use pdc_show::{Line, Shown};
 use std::alloc::{AllocError, Global};
 use std::io::{ErrorKind, Read, Write};
@@ -103,17 +104,16 @@ impl Export {
         piece: &[u8],
         writer: &mut W,
     ) -> Result<(), ExportFault> {
-        let mut is_first = true;
-        for part in piece.split(|byte| *byte == b'\n') {
-            if !is_first {
-                self.end_line(rt)?;
-                if self.out.len() >= BATCH_LEN {
-                    self.write_out(writer)?;
-                }
+        let mut rest = piece;
+        while let Some(len) = memchr(b'\n', rest) {
+            self.line.take(&rest[..len])?;
+            self.end_line(rt)?;
+            if self.out.len() >= BATCH_LEN {
+                self.write_out(writer)?;
             }
-            is_first = false;
-            self.line.take(part)?;
+            rest = &rest[len + 1..];
         }
+        self.line.take(rest)?;
         self.write_out(writer)?;
         writer.flush().map_err(ExportFault::Write)
     }

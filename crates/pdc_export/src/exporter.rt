@@ -6,12 +6,11 @@ ghost use Rattle.pdc_frame.specs.Frame.{Fields, IsFirstFault, IsFrame};
 ghost use Rattle.pdc_frame.specs.declared.fault.FrameFault.{FrameFault};
 ghost use Rattle.pdc_show.specs.declared.refusal.NotShown.TheVariants as why;
 
-use crate::held::Held;
+use crate::held::{Held, blocks_for, read_blocks};
 use crate::objects;
 use crate::table::Columns;
-use arrayvec::ArrayVec;
-use pdc_block::{Block, cut};
-use pdc_cfg::{ConfigView, Shape, read_config};
+use pdc_block::Block;
+use pdc_cfg::{ConfigView, read_config};
 use pdc_frame::{Frame, Kind, StreamId, read_command, read_frame, read_header};
 use pdc_show::NotShown;
 use pdc_values::{SecondText, Template, append_count, microseconds};
@@ -100,19 +99,18 @@ fn csv_templates(
     Ok((templates, is_whole))
 }
 
-/// The shapes of a configuration's sections, in order.
-fn shapes_of(config: &ConfigView) -> ArrayVec<Shape, 17> {
-    let mut shapes = ArrayVec::new();
-    for section in config.sections.as_slice() {
-        shapes.push(section.shape);
-    }
-    shapes
-}
-
 /// What is written of a block of each section that is held.
 fn templates_of(held: &Option<Held>) -> &[Template] {
     match held {
         Some(held) => held.templates.as_slice(),
+        None => &[],
+    }
+}
+
+/// The blocks of the data frame that was read last.
+fn blocks_of(held: &Option<Held>) -> &[Block] {
+    match held {
+        Some(held) => held.blocks.as_slice(),
         None => &[],
     }
 }
@@ -164,41 +162,39 @@ impl Exporter {
         }
     }
 
-    /// The blocks of a data frame, by the configuration that is held.
-    fn blocks(&self, frame: &Frame) -> Result<ArrayVec<Block, 17>, NotShown>
-        ensures { IfErr result (λ refusal. is_of_bytes refusal ≡ false) }
+    /// Reads the blocks of a data frame, by the configuration that is held.
+    fn read_blocks(&mut self, frame: &Frame) -> Result<Result<(), NotShown>, AllocError>
+        ensures { IfOk result (λ read. IfErr read (λ refusal. is_of_bytes refusal ≡ false)) }
     {
-        match &self.held {
+        match &mut self.held {
             Some(held) if held.id.value == frame.id.value => {
-                cut(held.shapes.as_slice(), frame.payload).map_err(NotShown::Body)
+                match read_blocks(held.blocks.as_mut_slice(), &mut held.words, frame.payload)? {
+                    Ok(()) => Ok(Ok(())),
+                    Err(fault) => Ok(Err(NotShown::Body(fault))),
+                }
             }
-            _ => Err(NotShown::NoConfig),
+            _ => Ok(Err(NotShown::NoConfig)),
         }
     }
 
     /// Writes a data frame.
     fn data(&mut self, frame: &Frame, out: &mut Vec<u8>) -> Result<Exported, AllocError>
-        ensures refused { IfOk result (λ exported. is_refused exported ≡ true → out.new.items ≡ out.old.items) }
+        ensures refused { IfOk result (λ exported. is_refused exported ≡ true →
+            out.new.items ≡ out.old.items) }
         ensures frame { IfOk result (λ exported. is_no_frame exported ≡ false) }
     {
-        let blocks = self.blocks(frame);
-        match &blocks {
-            Ok(blocks) => self.write_data(frame, blocks.as_slice(), out),
-            Err(refusal) => Ok(Exported::Refused(*refusal)),
+        match self.read_blocks(frame)? {
+            Ok(()) => self.write_data(frame, out),
+            Err(refusal) => Ok(Exported::Refused(refusal)),
         }
     }
 
-    /// Writes the blocks of a data frame.
-    fn write_data(
-        &mut self,
-        frame: &Frame,
-        blocks: &[Block],
-        out: &mut Vec<u8>,
-    ) -> Result<Exported, AllocError>
+    /// Writes the blocks of a data frame, which were read.
+    fn write_data(&mut self, frame: &Frame, out: &mut Vec<u8>) -> Result<Exported, AllocError>
         ensures { IfOk result (λ exported. is_refused exported ≡ false) }
     {
         self.set_time(frame, self.time_base_of(frame.id))?;
-        let templates = templates_of(&self.held);
+        let (templates, blocks) = (templates_of(&self.held), blocks_of(&self.held));
         match self.format {
             Format::Json => {
                 objects::append_frame(b"data", time_of(self.time.as_slice()), frame, out)?;
@@ -216,7 +212,8 @@ impl Exporter {
 
     /// Writes a configuration, and holds it where it is a CFG-2.
     fn config(&mut self, frame: &Frame, out: &mut Vec<u8>) -> Result<Exported, AllocError>
-        ensures refused { IfOk result (λ exported. is_refused exported ≡ true → out.new.items ≡ out.old.items) }
+        ensures refused { IfOk result (λ exported. is_refused exported ≡ true →
+            out.new.items ≡ out.old.items) }
         ensures frame { IfOk result (λ exported. is_no_frame exported ≡ false) }
     {
         let config = match read_config(frame) {
@@ -249,7 +246,8 @@ impl Exporter {
             id: frame.id,
             time_base: config.time_base,
             payload: Vec::from_slice(self.alloc, frame.payload)?,
-            shapes: shapes_of(config),
+            blocks: blocks_for(self.alloc, config)?,
+            words: Vec::new(self.alloc),
             templates,
         });
         Ok(())
@@ -308,7 +306,8 @@ impl Exporter {
 
     /// Writes a header frame.
     fn header(&mut self, frame: &Frame, out: &mut Vec<u8>) -> Result<Exported, AllocError>
-        ensures refused { IfOk result (λ exported. is_refused exported ≡ true → out.new.items ≡ out.old.items) }
+        ensures refused { IfOk result (λ exported. is_refused exported ≡ true →
+            out.new.items ≡ out.old.items) }
         ensures frame { IfOk result (λ exported. is_no_frame exported ≡ false) }
     {
         match read_header(frame) {
@@ -327,7 +326,8 @@ impl Exporter {
 
     /// Writes a command frame.
     fn command(&mut self, frame: &Frame, out: &mut Vec<u8>) -> Result<Exported, AllocError>
-        ensures refused { IfOk result (λ exported. is_refused exported ≡ true → out.new.items ≡ out.old.items) }
+        ensures refused { IfOk result (λ exported. is_refused exported ≡ true →
+            out.new.items ≡ out.old.items) }
         ensures frame { IfOk result (λ exported. is_no_frame exported ≡ false) }
     {
         match read_command(frame) {
@@ -351,10 +351,13 @@ impl Exporter {
     /// [`AllocError`] where there is no room and none is got.
     pub fn export(&mut self, bytes: &[u8], out: &mut Vec<u8>) -> Result<Exported, AllocError>
         // Nothing is written of what is refused.
-        ensures refused { IfOk result (λ exported. is_refused exported ≡ true → out.new.items ≡ out.old.items) }
+        ensures refused { IfOk result (λ exported. is_refused exported ≡ true →
+            out.new.items ≡ out.old.items) }
         // Bytes that are no frame are refused by the first fault that they have; a frame is not refused so.
-        ensures fault { (fault : FrameFault) → result ≡ Ok (Refused (why.Frame fault)) → IsFirstFault bytes.now fault }
-        ensures frame { (f : Fields) → IsFrame bytes.now f → IfOk result (λ exported. is_no_frame exported ≡ false) }
+        ensures fault { (fault : FrameFault) → result ≡ Ok (Refused (why.Frame fault)) →
+            IsFirstFault bytes.now fault }
+        ensures frame { (f : Fields) → IsFrame bytes.now f →
+            IfOk result (λ exported. is_no_frame exported ≡ false) }
     {
         let frame = match read_frame(bytes) {
             Ok(frame) => frame,

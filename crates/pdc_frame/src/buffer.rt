@@ -1,5 +1,6 @@
 //! Bytes that frames are appended to.
-ghost use Rattle.std.specs.Prelude.{◌≡◌, ◌+◌, ◌*◌, ◌^◌, ◌<◌, ◌≤◌, ◌++◌, ℕ, List, length, vec_capacity, IsOk, OnOk, OnErr};
+ghost use Rattle.std.specs.Prelude.{◌≡◌, ◌+◌, ◌*◌, ◌^◌, ◌<◌, ◌≤◌, ◌++◌, ℕ, List, length};
+ghost use Rattle.std.specs.Prelude.{vec_capacity, IsOk, OnOk, OnErr};
 ghost use Rattle.pdc_memory.specs.Asking.{WasRefused};
 
 use arrayvec::ArrayVec;
@@ -34,11 +35,13 @@ pub trait Buffer {
         ensures bytes { content self.new ≡ content self.old }
         ensures ok { OnOk result (length (content self.new) + additional ≤ capacity self.new) }
         ensures room { length (content self.old) + additional ≤ capacity self.old → IsOk result }
-        ensures in_place { length (content self.old) + additional ≤ capacity self.old → capacity self.new ≡ capacity self.old }
+        ensures in_place { length (content self.old) + additional ≤ capacity self.old →
+            capacity self.new ≡ capacity self.old }
         ensures err { OnErr result (capacity self.new ≡ capacity self.old) }
         ensures grown { capacity self.old ≤ capacity self.new }
         ensures refused { OnErr result (refused self.new additional) }
-        ensures unasked { length (content self.old) + additional ≤ capacity self.old → asked self.new ≡ asked self.old };
+        ensures unasked { length (content self.old) + additional ≤ capacity self.old →
+            asked self.new ≡ asked self.old };
 
     /// Appends the bytes, for which there is room. It takes no memory.
     fn append_bytes(&mut self, bytes: &[u8])

@@ -1,5 +1,6 @@
 //! Command frames (C37.118.2-2011, 6.6).
-ghost use Rattle.std.specs.Prelude.{◌≡◌, ◌+◌, ◌<◌, ◌≤◌, ◌++◌, length, IfOk, IfErr, OnOk, OnErr, IsOk};
+ghost use Rattle.std.specs.Prelude.{◌≡◌, ◌+◌, ◌<◌, ◌≤◌, ◌++◌, length, IfOk, IfErr, OnOk, OnErr};
+ghost use Rattle.std.specs.Prelude.{IsOk};
 ghost use Rattle.std.specs.Int.{w16, to_be_bytes};
 ghost use Rattle.pdc_frame.specs.Frame.{fields_of, spelling_of, IsFrame};
 ghost use Rattle.pdc_frame.specs.Command.{code_of, command_fields, IsCommand, IsFirstFault};
@@ -45,7 +46,8 @@ pub fn read_command(frame: &Frame) -> Result<Command, CommandFault>
     // The frame carries what is read,
     ensures found { IfOk result (IsCommand (fields_of frame.now)) }
     // and what it carries is read.
-    ensures only { (command : Command) → IsCommand (fields_of frame.now) command → result ≡ Ok command }
+    ensures only { (command : Command) → IsCommand (fields_of frame.now) command →
+        result ≡ Ok command }
     // Which fault it is.
     ensures fault { IfErr result (IsFirstFault (fields_of frame.now)) }
 {
@@ -85,17 +87,21 @@ pub fn write_command<B: Buffer>(
     out: &mut B,
 ) -> Result<(), AllocError>
     // What is appended is the frame with these fields,
-    ensures ok { OnOk result (B.content out.new ≡ B.content out.old ++ spelling_of (command_fields id.value soc command)) }
+    ensures ok { OnOk result (B.content out.new ≡ B.content out.old ++
+        spelling_of (command_fields id.value soc command)) }
     // which is read back, and carries the command.
-    ensures frame { IsFrame (spelling_of (command_fields id.value soc command)) (command_fields id.value soc command) }
+    ensures frame { IsFrame (spelling_of (command_fields id.value soc command))
+        (command_fields id.value soc command) }
     ensures command { IsCommand (command_fields id.value soc command) command }
     // It fails only where there was no room, and then nothing is appended.
-    ensures err { OnErr result ((B.content out.new ≡ B.content out.old) × (B.capacity out.new ≡ B.capacity out.old)) }
+    ensures err { OnErr result ((B.content out.new ≡ B.content out.old)
+        × (B.capacity out.new ≡ B.capacity out.old)) }
     ensures room { length (B.content out.old) + COMMAND_SIZE ≤ B.capacity out.old → IsOk result }
     // A request for the whole frame was refused.
     ensures refused { OnErr result (B.refused out.new COMMAND_SIZE) }
     // Where there was room, it takes no memory.
-    ensures in_place { length (B.content out.old) + COMMAND_SIZE ≤ B.capacity out.old → B.capacity out.new ≡ B.capacity out.old }
+    ensures in_place { length (B.content out.old) + COMMAND_SIZE ≤ B.capacity out.old →
+        B.capacity out.new ≡ B.capacity out.old }
     ensures capacity { B.capacity out.old ≤ B.capacity out.new }
 {
     frames_are_written_in_parts();

@@ -6,10 +6,12 @@
 //! steps    More      Whole    More            Whole    More
 //! held     4         26       11              26       3 bytes
 //! ```
-ghost use Rattle.std.specs.Prelude.{◌≡◌, ◌+◌, ◌-◌, ◌<◌, ◌≤◌, ◌++◌, ◌⊎◌, ℕ, List, [], length, take, IfOk, OnErr, MatchOption};
+ghost use Rattle.std.specs.Prelude.{◌≡◌, ◌+◌, ◌-◌, ◌<◌, ◌≤◌, ◌++◌, ◌⊎◌, ℕ, List, [], length};
+ghost use Rattle.std.specs.Prelude.{take, IfOk, OnErr, MatchOption};
 ghost use Rattle.pdc_memory.specs.Asking.{WasRefused};
 ghost use Rattle.pdc_frame.specs.Frame.{Fields, Fits, IsFrame, fields_of, spelling_of};
-ghost use Rattle.pdc_frame.specs.Stream.{IsGoing, Shows, IsAt, IsBad, HasTaken, pending_of, given_at};
+ghost use Rattle.pdc_frame.specs.Stream.{IsGoing, Shows, IsAt, IsBad, HasTaken, pending_of};
+ghost use Rattle.pdc_frame.specs.Stream.{given_at};
 
 use crate::fault::FrameFault;
 use crate::frame::Frame;
@@ -40,7 +42,11 @@ impl<A: Allocator> Model for Framer<A> {
 
     ghost view = { λ f. record { bytes = f.held.items; step = f.step; room = f.held.capacity } };
 
-    ghost invariant = { λ f. record { room : MAX_SIZE ≤ f.held.capacity; at : IsAt f.held.items f.step } };
+    ghost invariant = { λ f. record {
+      room : MAX_SIZE ≤ f.held.capacity;
+      at : IsAt f.held.items
+          f.step;
+    } };
 }
 
 /// What SYNC and FRAMESIZE say so far.
@@ -66,7 +72,8 @@ fn take_header<A: Allocator>(held: &mut HeldBytes<A>, piece: &[u8]) -> (usize, S
     ensures taken { result.0 ≤ length piece.now }
     ensures bytes { held.new.items ≡ held.old.items ++ take result.0 piece.now }
     ensures at { IsAt held.new.items result.1 }
-    ensures more { result.1 ≡ Step.More → (result.0 ≡ length piece.now) ⊎ (SIZE_END ≤ length held.new.items) }
+    ensures more { result.1 ≡ Step.More →
+        (result.0 ≡ length piece.now) ⊎ (SIZE_END ≤ length held.new.items) }
     ensures not_whole { result.1 ≡ Step.Whole → ⊥ }
     ensures some { length held.old.items < SIZE_END → 0 < length piece.now → 0 < result.0 }
 {
@@ -168,7 +175,8 @@ impl<A: Allocator> Framer<A> {
     /// takes no byte and answers that fault again.
     pub fn feed(&mut self, piece: &[u8]) -> (usize, Step)
         ensures taken { result.0 ≤ length piece.now }
-        ensures bytes { self.new.bytes ≡ pending_of self.old.step self.old.bytes ++ take result.0 piece.now }
+        ensures bytes { self.new.bytes ≡ pending_of self.old.step self.old.bytes ++
+            take result.0 piece.now }
         ensures step { self.new.step ≡ result.1 }
         ensures room { self.new.room ≡ self.old.room }
         ensures at { IsAt self.new.bytes result.1 }
@@ -178,11 +186,16 @@ impl<A: Allocator> Framer<A> {
         ensures some { (IsBad self.old.step → ⊥) → 0 < length piece.now → 0 < result.0 }
         // and a fault stands. So over a whole stream the frames given are the stream's, in order.
         ensures bad { IsBad self.old.step → (result.0 ≡ 0) × (result.1 ≡ self.old.step) }
-        ensures stream { (stream : List ℕ) (frames : List (List ℕ)) → HasTaken stream frames self.old
-            → HasTaken (stream ++ take result.0 piece.now) (frames ++ given_at result.1 self.new.bytes) self.new }
+        ensures stream { (stream : List ℕ) (frames : List (List ℕ)) →
+            HasTaken stream frames self.old
+            → HasTaken (stream ++ take result.0 piece.now) (frames ++
+            given_at result.1 self.new.bytes) self.new }
         // With nothing pending, a frame that was written is given at its last byte, whatever comes behind it.
-        ensures written { (f : Fields) (rest : List ℕ) → pending_of self.old.step self.old.bytes ≡ [] → Fits f → piece.now ≡ spelling_of f ++ rest
-            → (result.0 ≡ length (spelling_of f)) × (result.1 ≡ Step.Whole) × (self.new.bytes ≡ spelling_of f) }
+        ensures written { (f : Fields) (rest : List ℕ) →
+            pending_of self.old.step self.old.bytes ≡ [] → Fits f →
+            piece.now ≡ spelling_of f ++ rest
+            → (result.0 ≡ length (spelling_of f)) × (result.1 ≡ Step.Whole)
+            × (self.new.bytes ≡ spelling_of f) }
     {
         let (taken, step) = take_next(&mut self.held, self.step, piece);
         self.step = step;

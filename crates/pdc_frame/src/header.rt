@@ -1,5 +1,6 @@
 //! Header frames (C37.118.2-2011, 6.5).
-ghost use Rattle.std.specs.Prelude.{◌≡◌, ◌+◌, ◌<◌, ◌≤◌, ◌++◌, ℕ, List, length, IfOk, IfErr, OnOk, OnErr, IsOk, IsOkAnd};
+ghost use Rattle.std.specs.Prelude.{◌≡◌, ◌+◌, ◌<◌, ◌≤◌, ◌++◌, ℕ, List, length, IfOk, IfErr, OnOk};
+ghost use Rattle.std.specs.Prelude.{OnErr, IsOk, IsOkAnd};
 ghost use Rattle.pdc_frame.specs.Frame.{fields_of, spelling_of, IsFrame};
 ghost use Rattle.pdc_frame.specs.Command.{header_fields, IsHeader, IsHeaderFault};
 
@@ -24,7 +25,8 @@ pub fn read_header<'a>(frame: &Frame<'a>) -> Result<&'a [u8], CommandFault>
     // The frame carries what is read,
     ensures found { IfOk result (λ text. IsHeader (fields_of frame.now) text.now) }
     // and what it carries is read.
-    ensures only { (text : List ℕ) → IsHeader (fields_of frame.now) text → IsOkAnd result (λ found. found.now ≡ text) }
+    ensures only { (text : List ℕ) → IsHeader (fields_of frame.now) text →
+        IsOkAnd result (λ found. found.now ≡ text) }
     // Which fault it is.
     ensures fault { IfErr result (IsHeaderFault (fields_of frame.now)) }
 {
@@ -48,17 +50,23 @@ pub fn write_header<B: Buffer>(
 ) -> Result<(), AllocError>
     requires size { length text.now ≤ MAX_TEXT }
     // What is appended is the frame with these fields,
-    ensures ok { OnOk result (B.content out.new ≡ B.content out.old ++ spelling_of (header_fields id.value soc text.now)) }
+    ensures ok { OnOk result (B.content out.new ≡ B.content out.old ++
+        spelling_of (header_fields id.value soc text.now)) }
     // which is read back, and carries the text.
-    ensures frame { IsFrame (spelling_of (header_fields id.value soc text.now)) (header_fields id.value soc text.now) }
+    ensures frame { IsFrame (spelling_of (header_fields id.value soc text.now))
+        (header_fields id.value soc text.now) }
     ensures text { IsHeader (header_fields id.value soc text.now) text.now }
     // It fails only where there was no room, and then nothing is appended.
-    ensures err { OnErr result ((B.content out.new ≡ B.content out.old) × (B.capacity out.new ≡ B.capacity out.old)) }
-    ensures room { length (B.content out.old) + (length text.now + OVERHEAD) ≤ B.capacity out.old → IsOk result }
+    ensures err { OnErr result ((B.content out.new ≡ B.content out.old)
+        × (B.capacity out.new ≡ B.capacity out.old)) }
+    ensures room { length (B.content out.old) + (length text.now + OVERHEAD) ≤ B.capacity out.old →
+        IsOk result }
     // A request for the whole frame was refused.
     ensures refused { OnErr result (B.refused out.new (length text.now + OVERHEAD)) }
     // Where there was room, it takes no memory.
-    ensures in_place { length (B.content out.old) + (length text.now + OVERHEAD) ≤ B.capacity out.old → B.capacity out.new ≡ B.capacity out.old }
+    ensures in_place { length (B.content out.old) +
+        (length text.now + OVERHEAD) ≤ B.capacity out.old →
+        B.capacity out.new ≡ B.capacity out.old }
     ensures capacity { B.capacity out.old ≤ B.capacity out.new }
 {
     frames_are_written_in_parts();

@@ -1,7 +1,9 @@
 //! The fields of a frame, read from its bytes.
-ghost use Rattle.std.specs.Prelude.{◌≡◌, ◌+◌, ◌*◌, ◌<◌, ◌≤◌, ◌⊎◌, length, IfOk, IfErr, IsOkAnd, MatchOption, IsTrue, ◌↔◌};
+ghost use Rattle.std.specs.Prelude.{◌≡◌, ◌+◌, ◌*◌, ◌<◌, ◌≤◌, ◌⊎◌, length, IfOk, IfErr, IsOkAnd};
+ghost use Rattle.std.specs.Prelude.{MatchOption, IsTrue, ◌↔◌};
 ghost use Rattle.pdc_words.specs.Bytes.{word_at};
-ghost use Rattle.pdc_frame.specs.Frame.{Fields, fields_of, fields_in, number_of, IsFrame, IsSync, IsFirstFault};
+ghost use Rattle.pdc_frame.specs.Frame.{Fields, fields_of, fields_in, number_of, IsFrame, IsSync};
+ghost use Rattle.pdc_frame.specs.Frame.{IsFirstFault};
 ghost use Rattle.pdc_frame.specs.Stream.{IsWhole};
 
 use crate::fault::FrameFault;
@@ -92,7 +94,8 @@ pub fn read_frame(bytes: &[u8]) -> Result<Frame<'_>, FrameFault>
     // What is read is spelled so.
     ensures found { IfOk result (λ frame. IsFrame bytes.now (fields_of frame)) }
     // What is spelled so is read, with these fields.
-    ensures only { (f : Fields) → IsFrame bytes.now f → IsOkAnd result (λ frame. fields_of frame ≡ f) }
+    ensures only { (f : Fields) → IsFrame bytes.now f →
+        IsOkAnd result (λ frame. fields_of frame ≡ f) }
     // Which fault it is.
     ensures fault { IfErr result (IsFirstFault bytes.now) }
 {

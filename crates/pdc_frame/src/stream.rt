@@ -1,5 +1,6 @@
 //! A whole stream, cut into its frames.
-ghost use Rattle.std.specs.Prelude.{◌≡◌, ◌≤◌, ◌++◌, ℕ, List, Option, length, take, map, flat_map, IfOk, OnErr, MatchOption, None, [], ◌∷◌, OnOk};
+ghost use Rattle.std.specs.Prelude.{◌≡◌, ◌≤◌, ◌++◌, ℕ, List, Option, length, take, map, flat_map};
+ghost use Rattle.std.specs.Prelude.{IfOk, OnErr, MatchOption, None, [], ◌∷◌, OnOk};
 ghost use Rattle.pdc_memory.specs.Asking.{SomeWasRefused};
 ghost use Rattle.pdc_frame.specs.declared.fault.FrameFault.{FrameFault};
 ghost use Rattle.pdc_frame.specs.Stream.{Splits, IsBad, GoesOn};
@@ -16,7 +17,8 @@ fn keep<A: Allocator + Copy>(
     frame: &[u8],
     frames: &mut Vec<Vec<u8, A>, A>,
 ) -> Result<(), AllocError>
-    ensures kept { OnOk result (map (λ f. f.items) frames.new.items ≡ map (λ f. f.items) frames.old.items ++ frame.now ∷ []) }
+    ensures kept { OnOk result (map (λ f. f.items) frames.new.items ≡
+        map (λ f. f.items) frames.old.items ++ frame.now ∷ []) }
     ensures refused { OnErr result SomeWasRefused }
 {
     let copy = copy_of(alloc, frame)?;
@@ -34,9 +36,12 @@ fn add_frames<A: Allocator + Copy>(
 ) -> Result<Option<FrameFault>, AllocError>
     requires { IsBad framer.old.step → ⊥ }
     ensures none { IfOk result (λ fault. fault ≡ None → (IsBad framer.new.step → ⊥)
-        × GoesOn piece.now (map (λ f. f.items) frames.old.items) framer.old (map (λ f. f.items) frames.new.items) framer.new) }
-    ensures some { IfOk result (λ fault. (why : FrameFault) → fault ≡ Some why → (framer.new.step ≡ Step.Bad why)
-        × (n : ℕ) × GoesOn (take n piece.now) (map (λ f. f.items) frames.old.items) framer.old (map (λ f. f.items) frames.new.items) framer.new) }
+        × GoesOn piece.now (map (λ f. f.items) frames.old.items) framer.old
+        (map (λ f. f.items) frames.new.items) framer.new) }
+    ensures some { IfOk result (λ fault. (why : FrameFault) → fault ≡ Some why →
+        (framer.new.step ≡ Step.Bad why)
+        × (n : ℕ) × GoesOn (take n piece.now) (map (λ f. f.items) frames.old.items) framer.old
+        (map (λ f. f.items) frames.new.items) framer.new) }
     ensures refused { OnErr result SomeWasRefused }
 {
     let mut at = 0;
@@ -63,10 +68,14 @@ pub fn frames_of<A: Allocator + Copy>(
     pieces: &[Vec<u8, A>],
 ) -> Result<(Vec<Vec<u8, A>, A>, Option<FrameFault>), AllocError>
     // The stream is these frames, and then a rest that is none.
-    ensures split { IfOk result (λ found. (rest : List ℕ) × Splits (flat_map (λ piece. piece.items) pieces.now) (map (λ f. f.items) found.0.items) rest found.1) }
+    ensures split { IfOk result (λ found. (rest : List ℕ)
+        × Splits (flat_map (λ piece. piece.items) pieces.now) (map (λ f. f.items) found.0.items)
+        rest found.1) }
     // No other frames are, so it doesn't matter how the stream was cut into pieces.
-    ensures only { IfOk result (λ found. (frames : List (List ℕ)) (rest : List ℕ) (fault : Option FrameFault)
-        → Splits (flat_map (λ piece. piece.items) pieces.now) frames rest fault → (map (λ f. f.items) found.0.items ≡ frames) × (found.1 ≡ fault)) }
+    ensures only { IfOk result (λ found. (frames : List (List ℕ)) (rest : List ℕ)
+        (fault : Option FrameFault)
+        → Splits (flat_map (λ piece. piece.items) pieces.now) frames rest fault →
+        (map (λ f. f.items) found.0.items ≡ frames) × (found.1 ≡ fault)) }
     ensures refused { OnErr result SomeWasRefused }
 {
     let mut framer = Framer::new(alloc)?;

@@ -3,7 +3,8 @@ ghost use Rattle.std.specs.Prelude.{◌≡◌, ◌+◌, ◌^◌, ◌<◌, ◌≤
 ghost use Rattle.std.specs.Int.{w16, to_be_bytes};
 ghost use Rattle.pdc_words.specs.Bytes.{AreBytes};
 ghost use Rattle.pdc_words.specs.CheckWord.{check_word_of, polynomial_of};
-ghost use Rattle.pdc_frame.specs.Frame.{Fits, fields_of, number_of, header_of, spelling_of, IsFrame};
+ghost use Rattle.pdc_frame.specs.Frame.{Fits, fields_of, number_of, header_of, spelling_of};
+ghost use Rattle.pdc_frame.specs.Frame.{IsFrame};
 
 use crate::buffer::Buffer;
 use crate::frame::{Frame, Kind};
@@ -69,7 +70,8 @@ fn header_number(head: &Frame, size: u16) -> u128
 #[inline(always)]
 fn check_bytes(head: &Frame, payload: &[u8]) -> [u8; CHECK_LEN]
     requires { length payload.now ≤ MAX_PAYLOAD }
-    ensures { result ≡ to_be_bytes w16 (check_word_of (header_of (fields_of head.now) (length payload.now + OVERHEAD) ++ payload.now)) }
+    ensures { result ≡ to_be_bytes w16 (check_word_of
+        (header_of (fields_of head.now) (length payload.now + OVERHEAD) ++ payload.now)) }
 {
     let size = payload.len() + OVERHEAD;
     check_word_behind(header_number(head, size as u16), payload).to_be_bytes()
@@ -83,7 +85,8 @@ pub fn write_ends(head: &Frame, payload: &[u8], front: &mut [u8], back: &mut [u8
     requires front { length front.old ≡ HEADER_LEN }
     requires back { length back.old ≡ CHECK_LEN }
     ensures front { front.new ≡ header_of (fields_of head.now) (length payload.now + OVERHEAD) }
-    ensures back { back.new ≡ to_be_bytes w16 (check_word_of (header_of (fields_of head.now) (length payload.now + OVERHEAD) ++ payload.now)) }
+    ensures back { back.new ≡ to_be_bytes w16 (check_word_of
+        (header_of (fields_of head.now) (length payload.now + OVERHEAD) ++ payload.now)) }
     // The other fields are in range by their types.
     ensures soc { head.now.soc < 2 ^ 32 }
     ensures quality { head.now.quality < 2 ^ 8 }
@@ -107,17 +110,23 @@ pub fn begin_frame<B: Buffer>(
     out: &mut B,
 ) -> Result<(), AllocError>
     requires { payload_len ≤ MAX_PAYLOAD }
-    ensures ok { OnOk result (B.content out.new ≡ B.content out.old ++ header_of (fields_of head.now) (payload_len + OVERHEAD)) }
-    ensures space { OnOk result (length (B.content out.new) + payload_len + CHECK_LEN ≤ B.capacity out.new) }
+    ensures ok { OnOk result (B.content out.new ≡ B.content out.old ++
+        header_of (fields_of head.now) (payload_len + OVERHEAD)) }
+    ensures space { OnOk result (length (B.content out.new) + payload_len +
+        CHECK_LEN ≤ B.capacity out.new) }
     // The other fields are in range by their types.
     ensures soc { head.now.soc < 2 ^ 32 }
     ensures quality { head.now.quality < 2 ^ 8 }
     // It fails only where there was no room for the whole frame, and then nothing is appended.
-    ensures err { OnErr result ((B.content out.new ≡ B.content out.old) × (B.capacity out.new ≡ B.capacity out.old)) }
-    ensures room { length (B.content out.old) + payload_len + OVERHEAD ≤ B.capacity out.old → IsOk result }
+    ensures err { OnErr result ((B.content out.new ≡ B.content out.old)
+        × (B.capacity out.new ≡ B.capacity out.old)) }
+    ensures room { length (B.content out.old) + payload_len + OVERHEAD ≤ B.capacity out.old →
+        IsOk result }
     // Where there was room, it takes no memory.
-    ensures in_place { length (B.content out.old) + payload_len + OVERHEAD ≤ B.capacity out.old → B.capacity out.new ≡ B.capacity out.old }
-    ensures unasked { length (B.content out.old) + payload_len + OVERHEAD ≤ B.capacity out.old → B.asked out.new ≡ B.asked out.old }
+    ensures in_place { length (B.content out.old) + payload_len + OVERHEAD ≤ B.capacity out.old →
+        B.capacity out.new ≡ B.capacity out.old }
+    ensures unasked { length (B.content out.old) + payload_len + OVERHEAD ≤ B.capacity out.old →
+        B.asked out.new ≡ B.asked out.old }
     ensures capacity { B.capacity out.old ≤ B.capacity out.new }
     // A request for the whole frame was refused.
     ensures refused { OnErr result (B.refused out.new (payload_len + OVERHEAD)) }
@@ -134,7 +143,8 @@ pub fn begin_frame<B: Buffer>(
 pub fn end_frame<B: Buffer>(start: usize, out: &mut B)
     requires start { start ≤ length (B.content out.old) }
     requires room { length (B.content out.old) + CHECK_LEN ≤ B.capacity out.old }
-    ensures items { B.content out.new ≡ B.content out.old ++ to_be_bytes w16 (check_word_of (drop start (B.content out.old))) }
+    ensures items { B.content out.new ≡ B.content out.old ++
+        to_be_bytes w16 (check_word_of (drop start (B.content out.old))) }
     ensures len { length (B.content out.new) ≡ length (B.content out.old) + CHECK_LEN }
     ensures in_place { B.capacity out.new ≡ B.capacity out.old }
     ensures unasked { B.asked out.new ≡ B.asked out.old }
@@ -159,15 +169,22 @@ fn payload_len(payload: &[u8]) -> usize
 #[inline(always)]
 pub fn write_frame<B: Buffer>(frame: &Frame, out: &mut B) -> Result<(), AllocError>
     // What is appended is the frame,
-    ensures ok { OnOk result (B.content out.new ≡ B.content out.old ++ spelling_of (fields_of frame.now)) }
+    ensures ok { OnOk result (B.content out.new ≡ B.content out.old ++
+        spelling_of (fields_of frame.now)) }
     // which is read back with these fields.
     ensures frame { IsFrame (spelling_of (fields_of frame.now)) (fields_of frame.now) }
     // It fails only where there was no room, and then nothing is appended.
-    ensures err { OnErr result ((B.content out.new ≡ B.content out.old) × (B.capacity out.new ≡ B.capacity out.old)) }
-    ensures room { length (B.content out.old) + length (spelling_of (fields_of frame.now)) ≤ B.capacity out.old → IsOk result }
+    ensures err { OnErr result ((B.content out.new ≡ B.content out.old)
+        × (B.capacity out.new ≡ B.capacity out.old)) }
+    ensures room { length (B.content out.old) +
+        length (spelling_of (fields_of frame.now)) ≤ B.capacity out.old → IsOk result }
     // Where there was room, it takes no memory.
-    ensures in_place { length (B.content out.old) + length (spelling_of (fields_of frame.now)) ≤ B.capacity out.old → B.capacity out.new ≡ B.capacity out.old }
-    ensures unasked { length (B.content out.old) + length (spelling_of (fields_of frame.now)) ≤ B.capacity out.old → B.asked out.new ≡ B.asked out.old }
+    ensures in_place { length (B.content out.old) +
+        length (spelling_of (fields_of frame.now)) ≤ B.capacity out.old →
+        B.capacity out.new ≡ B.capacity out.old }
+    ensures unasked { length (B.content out.old) +
+        length (spelling_of (fields_of frame.now)) ≤ B.capacity out.old →
+        B.asked out.new ≡ B.asked out.old }
     ensures capacity { B.capacity out.old ≤ B.capacity out.new }
     // A request for the whole frame was refused.
     ensures refused { OnErr result (B.refused out.new (length (spelling_of (fields_of frame.now)))) }

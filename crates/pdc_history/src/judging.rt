@@ -1,9 +1,11 @@
 //! Whether a PMU may send a frame, and in which bucket it is found then.
-ghost use Rattle.std.specs.Prelude.{◌≡◌, ℕ, ◌+◌, ◌<◌, ◌≤◌, Some, length, IfErr, IfOk, MatchOption, OnErr, OnOk, OnSome};
+ghost use Rattle.std.specs.Prelude.{◌≡◌, ℕ, ◌+◌, ◌<◌, ◌≤◌, Some, length, IfErr, IfOk};
+ghost use Rattle.std.specs.Prelude.{MatchOption, OnErr, OnOk, OnSome};
 ghost use Rattle.std.specs.List.{slice_get};
 ghost use Rattle.pdc_frame.specs.declared.limits.TheConstants.{MAX_SIZE};
 ghost use Rattle.pdc_history.specs.Index.{Fits, IsIndexed, bucket_under};
-ghost use Rattle.pdc_history.specs.Sent.{HasToldAtMost, HasToldOther, HaveNoStream, HaveStream, IsOfNone, IsOfSome, IsRefused, MaySendAfter, fault_of};
+ghost use Rattle.pdc_history.specs.Sent.{HasToldAtMost, HasToldOther, HaveNoStream, HaveStream};
+ghost use Rattle.pdc_history.specs.Sent.{IsOfNone, IsOfSome, IsRefused, MaySendAfter, fault_of};
 ghost use Rattle.pdc_history.specs.declared.buckets.TheConstants.{BUCKETS};
 
 use crate::buckets::{BUCKETS, bucket_under};
@@ -30,7 +32,8 @@ fn pmu_of_stream(pmus: &[Pmu], id: u16) -> Option<&Pmu>
 
 /// The PMU of the table whose frame this is.
 pub(crate) fn pmu_of<'a>(settings: &'a Settings, bytes: &[u8]) -> Option<&'a Pmu>
-    ensures pmu { MatchOption result (IsOfNone settings.now bytes.now) (λ pmu. IsOfSome settings.now bytes.now pmu.now) }
+    ensures pmu { MatchOption result (IsOfNone settings.now bytes.now)
+        (λ pmu. IsOfSome settings.now bytes.now pmu.now) }
     ensures most { OnSome result (length bytes.now ≤ MAX_SIZE) }
 {
     frames_are_written_in_parts();
@@ -59,13 +62,16 @@ fn bucket_of_told(
 ) -> Result<usize, SendFault>
     requires index { IsIndexed settings.now frames.now.frames by_key.now.keys }
     requires buckets { by_key.now.buckets ≡ BUCKETS + 1 }
-    ensures bucket { IfOk result (λ bucket. bucket ≡ bucket_under pmu.now.stream.value told.entry.key) }
+    ensures bucket { IfOk result (λ bucket. bucket ≡
+        bucket_under pmu.now.stream.value told.entry.key) }
     ensures bound { IfOk result (λ bucket. bucket < BUCKETS) }
     ensures same { (p : ℕ) → slice_get settings.now.pmus.items p ≡ Some pmu.now →
-        OnOk result (HasToldAtMost settings.now frames.now.frames pmu.now told.entry.key told.entry.content.now) }
+        OnOk result (HasToldAtMost settings.now frames.now.frames pmu.now told.entry.key
+        told.entry.content.now) }
     ensures fault { IfErr result (λ fault. fault ≡ fault_of told.entry.key) }
     ensures other { (p : ℕ) → slice_get settings.now.pmus.items p ≡ Some pmu.now →
-        OnErr result (HasToldOther settings.now frames.now.frames pmu.now told.entry.key told.entry.content.now) }
+        OnErr result (HasToldOther settings.now frames.now.frames pmu.now told.entry.key
+        told.entry.content.now) }
 {
     match content_told(settings, pmu, frames, by_key, told.key) {
         Some(content) if content != told.content => Err(fault_of(told.key)),

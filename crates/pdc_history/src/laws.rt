@@ -1,9 +1,13 @@
 //! Laws of every history: each is the contract of a function that does nothing but call the laws that it stands on.
-ghost use Rattle.pdc_history.specs.Asked.{AskedIsReadOnce, CausesAreOne, FaultsMayNotHappen, SentMayCome};
-ghost use Rattle.pdc_history.specs.Genuine.{FramesAgree, HeldLayoutsWereSent, LayoutsAreOne, MergedBlocksAreGenuine, NodeBlocksAreGenuine, PublishedAgree, PublishedWereSent};
+ghost use Rattle.pdc_history.specs.Asked.{AskedIsReadOnce, CausesAreOne, FaultsMayNotHappen};
+ghost use Rattle.pdc_history.specs.Asked.{SentMayCome};
+ghost use Rattle.pdc_history.specs.Genuine.{FramesAgree, HeldLayoutsWereSent, LayoutsAreOne};
+ghost use Rattle.pdc_history.specs.Genuine.{MergedBlocksAreGenuine, NodeBlocksAreGenuine};
+ghost use Rattle.pdc_history.specs.Genuine.{PublishedAgree, PublishedWereSent};
 ghost use Rattle.pdc_history.specs.History.{EventsMakeHistories};
 ghost use Rattle.pdc_history.specs.Lives.{LivesAreLives, PublishedRowsAreThose, RowsAreOfLives};
-ghost use Rattle.pdc_history.specs.Marks.{AdoptedCountsNeverFall, InstantsRise, MarksBound, WaitingIsWhole};
+ghost use Rattle.pdc_history.specs.Marks.{AdoptedCountsNeverFall, InstantsRise, MarksBound};
+ghost use Rattle.pdc_history.specs.Marks.{WaitingIsWhole};
 ghost use Rattle.pdc_history.specs.Play.{PlaysAreHistories, PlaysAreOne, StepsAreOne};
 ghost use Rattle.pdc_history.specs.Pmus.{PmusSendOneBody, PmusSendOneSection, PmusSendTheirOwn};
 ghost use Rattle.pdc_history.specs.Seen.{OfHistories};

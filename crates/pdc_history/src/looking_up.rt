@@ -1,5 +1,6 @@
 //! Look-ups, each in one bucket.
-ghost use Rattle.std.specs.Prelude.{◌≡◌, ℕ, ◌+◌, ◌↔◌, List, Some, IsTrue, MatchOption, map, option_map};
+ghost use Rattle.std.specs.Prelude.{◌≡◌, ℕ, ◌+◌, ◌↔◌, List, Some, IsTrue, MatchOption, map};
+ghost use Rattle.std.specs.Prelude.{option_map};
 ghost use Rattle.std.specs.List.{Contains, slice_get};
 ghost use Rattle.pdc_history.specs.Index.{IsIndexed, bucket_of};
 ghost use Rattle.pdc_history.specs.Sent.{HasTold, HasToldNothing};
@@ -40,7 +41,8 @@ pub(crate) fn content_told<'a>(
     requires index { IsIndexed settings.now frames.now.frames by_key.now.keys }
     requires buckets { by_key.now.buckets ≡ BUCKETS + 1 }
     ensures { (p : ℕ) → slice_get settings.now.pmus.items p ≡ Some pmu.now →
-        MatchOption result (HasToldNothing settings.now frames.now.frames pmu.now key) (λ content. HasTold settings.now frames.now.frames pmu.now key content.now) }
+        MatchOption result (HasToldNothing settings.now frames.now.frames pmu.now key)
+        (λ content. HasTold settings.now frames.now.frames pmu.now key content.now) }
 {
     let bucket = bucket_under(pmu.stream.value, key);
     let mut next = by_key.last(bucket);

@@ -1,5 +1,6 @@
 //! All frames that were ever sent.
-ghost use Rattle.std.specs.Prelude.{◌≡◌, ◌<◌, ◌≤◌, ◌+◌, ◌↔◌, [], ◌∷◌, ◌++◌, true, false, length, option_map, IfErr, IfOk, IsErrOf, IsOk, IsTrue, OnErr, OnOk};
+ghost use Rattle.std.specs.Prelude.{◌≡◌, ◌<◌, ◌≤◌, ◌+◌, ◌↔◌, [], ◌∷◌, ◌++◌, true, false, length};
+ghost use Rattle.std.specs.Prelude.{option_map, IfErr, IfOk, IsErrOf, IsOk, IsTrue, OnErr, OnOk};
 ghost use Rattle.std.specs.List.{Contains, slice_get};
 ghost use Rattle.pdc_memory.specs.Asking.{SomeWasRefused};
 ghost use Rattle.pdc_frame.specs.declared.limits.TheConstants.{MAX_SIZE};
@@ -36,7 +37,12 @@ impl Model for Sent {
 
     ghost Value = { SentView };
 
-    ghost view = { λ s. record { frames = s.frames.frames; has_room = s.has_room; settings = s.settings } };
+    ghost view = { λ s. record {
+      frames = s.frames.frames;
+      has_room = s.has_room;
+      settings =
+          s.settings;
+    } };
 
     ghost invariant = { λ s. AreKept s.settings s.frames s.by_check s.by_key s.has_room };
 }
@@ -48,7 +54,8 @@ impl Sent {
     ///
     /// [`AllocError`] where a request for the buckets was refused.
     pub fn new(alloc: Global, settings: Settings) -> Result<Sent, AllocError>
-        ensures none { IfOk result (λ sent. sent ≡ record { frames = []; has_room = false; settings = settings }) }
+        ensures none { IfOk result (λ sent. sent ≡
+            record { frames = []; has_room = false; settings = settings }) }
         ensures refused { OnErr result SomeWasRefused }
     {
         Ok(Sent {

@@ -39,8 +39,11 @@ fn told_of<'a>(reading: Reading<'a>) -> Option<Told<'a>>
 
 /// What the bytes tell of this PMU: nothing, or one thing.
 pub(crate) fn told_by<'a>(settings: &Settings, pmu: &Pmu, bytes: &'a [u8]) -> Option<Told<'a>>
-    ensures found { (key : KeyData) (x : List ℕ) → option_map told_view result ≡ Some (record { key = key; content = x }) → Tells settings.now pmu.now bytes.now key x }
-    ensures only { (key : KeyData) (x : List ℕ) → Tells settings.now pmu.now bytes.now key x → option_map told_view result ≡ Some (record { key = key; content = x }) }
+    ensures found { (key : KeyData) (x : List ℕ) →
+        option_map told_view result ≡ Some (record { key = key; content = x }) →
+        Tells settings.now pmu.now bytes.now key x }
+    ensures only { (key : KeyData) (x : List ℕ) → Tells settings.now pmu.now bytes.now key x →
+        option_map told_view result ≡ Some (record { key = key; content = x }) }
 {
     bytes_are_read_in_one_way();
     told_of(read_arrival(settings, pmu, bytes))
@@ -53,8 +56,10 @@ pub(crate) fn content_under<'a>(
     key: Key,
     bytes: &'a [u8],
 ) -> Option<&'a [u8]>
-    ensures found { (x : List ℕ) → option_map (λ content. content.now) result ≡ Some x → Tells settings.now pmu.now bytes.now key x }
-    ensures only { (x : List ℕ) → Tells settings.now pmu.now bytes.now key x → option_map (λ content. content.now) result ≡ Some x }
+    ensures found { (x : List ℕ) → option_map (λ content. content.now) result ≡ Some x →
+        Tells settings.now pmu.now bytes.now key x }
+    ensures only { (x : List ℕ) → Tells settings.now pmu.now bytes.now key x →
+        option_map (λ content. content.now) result ≡ Some x }
 {
     match told_by(settings, pmu, bytes) {
         Some(told) if told.key == key => Some(told.content),

@@ -1,5 +1,6 @@
 //! The lock round a core.
-ghost use Rattle.std.specs.Prelude.{◌≡◌, ◌^◌, ◌<◌, ◌≤◌, Err, IfOk, IfSome, OnErr, OnOk, Some, [], false, true};
+ghost use Rattle.std.specs.Prelude.{◌≡◌, ◌^◌, ◌<◌, ◌≤◌, Err, IfOk, IfSome, OnErr, OnOk, Some, []};
+ghost use Rattle.std.specs.Prelude.{false, true};
 ghost use Rattle.pdc_core.specs.KeptArrival.{taken_view};
 ghost use Rattle.pdc_core.specs.Step.{ticked_of};
 ghost use Rattle.pdc_life.specs.Answer.{waiting_counts};
@@ -7,10 +8,12 @@ ghost use Rattle.pdc_life.specs.Row.{is_whole};
 ghost use Rattle.pdc_ports.specs.pdc_arrival.Counts.{counts_after};
 ghost use Rattle.pdc_hub.specs.Adding.{AddsArrival, AddsPop, AddsTick, IsLayoutBehind};
 ghost use Rattle.pdc_hub.specs.Closing.{closing_of};
-ghost use Rattle.pdc_hub.specs.Counted.{AreAllParts, AreAsBefore, AreSomeParts, HasSameAmounts, HasSameParts, sum_of};
+ghost use Rattle.pdc_hub.specs.Counted.{AreAllParts, AreAsBefore, AreSomeParts, HasSameAmounts};
+ghost use Rattle.pdc_hub.specs.Counted.{HasSameParts, sum_of};
 ghost use Rattle.pdc_hub.specs.Counted.{HaveCountedAs, HaveCountedNone, HaveCountedOne};
 ghost use Rattle.pdc_hub.specs.Opened.{AreCut, AreNamed, AreOpened};
-ghost use Rattle.pdc_hub.specs.Pops.{CanBeTagged, HasAllTop, HasAllTurns, OnlyLooks, PopsNothing, popped_by};
+ghost use Rattle.pdc_hub.specs.Pops.{CanBeTagged, HasAllTop, HasAllTurns, OnlyLooks, PopsNothing};
+ghost use Rattle.pdc_hub.specs.Pops.{popped_by};
 ghost use Rattle.pdc_hub.specs.Pops.{HasPoppedNone, HasPoppedOne, HasSameShares};
 ghost use Rattle.pdc_hub.specs.Replay.{AreSaid, WasRead};
 ghost use Rattle.pdc_log.specs.Log.{InTheLife, came_in};
@@ -66,7 +69,8 @@ impl<C: Core + Drop, N: Naming<C::Settings>> Hub<C, N> {
         requires blank { AreCut blanks N.taken N.refused N.configured N.top N.turns }
         ensures parts { IfOk result (λ made. AreAllParts made.1 N.taken N.refused N.configured
             × (made.2.top.parts ≡ N.top.parts) × (made.2.turns.parts ≡ N.turns.parts)) }
-        ensures amounts { IfOk result (λ made. HaveCountedNone made.1 × (made.2.top.amount ≡ floor)) }
+        ensures amounts { IfOk result (λ made. HaveCountedNone made.1
+            × (made.2.top.amount ≡ floor)) }
         ensures none { IfOk result (λ made. (popped_by made.2 ≡ 0) × (made.1.front ≡ [])
             × (made.2.front ≡ [])) }
         ensures denied { OnErr result (WasRefused limit) }
@@ -129,7 +133,8 @@ impl<C: Core + Drop, N: Naming<C::Settings>> Hub<C, N> {
         requires parts { AreSomeParts mine.old }
         ensures added { IfOk result (AddsArrival C.rules N.given stream bytes.now
             (taken_view datagram) mine.old mine.new) }
-        ensures counted { IfOk result (λ numbered. HaveCountedOne mine.old mine.new numbered.answer) }
+        ensures counted { IfOk result (λ numbered. HaveCountedOne mine.old mine.new
+            numbered.answer) }
         ensures most { (mine.new.taken.amount < 2 ^ 64) × (mine.new.refused.amount < 2 ^ 64) }
         ensures parts { HasSameParts mine.old mine.new }
         ensures causes { OnErr result (result ≡ Err HubFault.CountsUsedUp) }
@@ -190,7 +195,8 @@ impl<C: Core + Drop, N: Naming<C::Settings>> Hub<C, N> {
         ensures looked { OnlyLooks pops.old pops.new }
         ensures layout { OnOk result (IsLayoutBehind C.rules N.given pops.new.front soc
             (B.content out.old) (B.content out.new)) }
-        ensures causes { OnErr result ((result ≡ Err HubFault.NoMemory) × ForSome (B.refused out.new)) }
+        ensures causes { OnErr result ((result ≡ Err HubFault.NoMemory)
+            × ForSome (B.refused out.new)) }
         ensures err { OnErr result (B.content out.new ≡ B.content out.old) }
     {
         self.table.lock(rt).layout(rt, pops, soc, out)
@@ -219,7 +225,8 @@ impl<C: Core + Drop, N: Naming<C::Settings>> Hub<C, N> {
         ensures looked { OnlyLooks pops.old pops.new }
         ensures later { IsPrefix all.old.front pops.new.front }
         ensures came { came_in pops.new.front ≡ sum_of all.old }
-        ensures said { ∥ AreSaid (WasRead C.Settings.says C.Settings.fits N.settings) pops.new.front ∥₁ }
+        ensures said { ∥ AreSaid (WasRead C.Settings.says C.Settings.fits N.settings)
+            pops.new.front ∥₁ }
     {
         self.table.lock(rt).totals(rt, all, pops)
     }
@@ -230,7 +237,8 @@ impl<C: Core + Drop, N: Naming<C::Settings>> Hub<C, N> {
         ensures kept { HasSameAmounts all.old all.new × HasSameParts all.old all.new }
         ensures looked { OnlyLooks pops.old pops.new }
         ensures later { IsPrefix all.old.front pops.new.front }
-        ensures said { ∥ AreSaid (WasRead C.Settings.says C.Settings.fits N.settings) pops.new.front ∥₁ }
+        ensures said { ∥ AreSaid (WasRead C.Settings.says C.Settings.fits N.settings)
+            pops.new.front ∥₁ }
     {
         self.table.lock(rt).look(rt, all, pops);
     }
@@ -239,7 +247,8 @@ impl<C: Core + Drop, N: Naming<C::Settings>> Hub<C, N> {
     pub fn waiting<M, R: Wait>(&self, rt: &R, pops: &mut Pops<N, M>) -> [u16; MAX_PMUS]
         requires { HasAllTurns pops.old N.turns }
         ensures looked { OnlyLooks pops.old pops.new }
-        ensures waits { InTheLife C.rules N.given pops.new.front (λ g E. result ≡ waiting_counts g E) }
+        ensures waits { InTheLife C.rules N.given pops.new.front (λ g E. result ≡
+            waiting_counts g E) }
     {
         self.table.lock(rt).waiting(rt, pops)
     }

@@ -1,10 +1,13 @@
 //! The value under the lock.
-ghost use Rattle.std.specs.Prelude.{◌≡◌, ◌+◌, ◌^◌, ◌<◌, ◌≤◌, ◌↔◌, Err, IfOk, IsErrOf, OnErr, OnOk, Some, [], false, true};
+ghost use Rattle.std.specs.Prelude.{◌≡◌, ◌+◌, ◌^◌, ◌<◌, ◌≤◌, ◌↔◌, Err, IfOk, IsErrOf, OnErr};
+ghost use Rattle.std.specs.Prelude.{OnOk, Some, [], false, true};
 ghost use Rattle.pdc_core.specs.KeptArrival.{taken_view};
 ghost use Rattle.pdc_core.specs.Step.{ticked_of};
 ghost use Rattle.pdc_hub.specs.Adding.{AddsArrival, AddsPop, AddsTick, IsLayoutBehind};
-ghost use Rattle.pdc_hub.specs.Counted.{AreAsBefore, AreSomeParts, HasSameAmounts, HasSameParts, HaveCountedOne};
-ghost use Rattle.pdc_hub.specs.Counted.{configurations, configured_by, is_used_up, refused_by, taken_by};
+ghost use Rattle.pdc_hub.specs.Counted.{AreAsBefore, AreSomeParts, HasSameAmounts, HasSameParts};
+ghost use Rattle.pdc_hub.specs.Counted.{HaveCountedOne};
+ghost use Rattle.pdc_hub.specs.Counted.{configurations, configured_by, is_used_up, refused_by};
+ghost use Rattle.pdc_hub.specs.Counted.{taken_by};
 ghost use Rattle.pdc_hub.specs.Opened.{AreBegun, AreOpened};
 ghost use Rattle.pdc_hub.specs.Pops.{CanBeTagged, HasAllTop, HasAllTurns, OnlyLooks, PopsNothing};
 ghost use Rattle.pdc_hub.specs.Pops.{HasPoppedNone, HasPoppedOne, HasSameShares};
@@ -53,7 +56,8 @@ pub struct LockedCore<C: Core + Drop, N: Naming<C::Settings>> {
     pub ghost top_is: { C.popped_of core.state ≡ top.total },
     pub ghost popped_is: { top.total ≡ popped },
     // Each step of the log is counted in a book.
-    pub ghost came_are: { (taken.total + refused.total) + configured.total ≡ came_in core.log.seen.log },
+    pub ghost came_are: { (taken.total + refused.total) + configured.total ≡
+        came_in core.log.seen.log },
     pub ghost turns_are: { turns.total ≡ turned_in core.log.seen.log },
     ghost totals_are: { (taken.total ≡ totals.taken) × (refused.total ≡ totals.refused)
         × (configured.total ≡ totals.configured) },
@@ -125,11 +129,13 @@ impl<C: Core + Drop, N: Naming<C::Settings>> LockedCore<C, N> {
         ensures added { IfOk result (AddsArrival C.rules N.given stream bytes.now
             (taken_view datagram) mine.old mine.new) }
         // The shares rise by what is counted, stay below 2^64, and keep their parts.
-        ensures counted { IfOk result (λ numbered. HaveCountedOne mine.old mine.new numbered.answer) }
+        ensures counted { IfOk result (λ numbered. HaveCountedOne mine.old mine.new
+            numbered.answer) }
         ensures most { (mine.new.taken.amount < 2 ^ 64) × (mine.new.refused.amount < 2 ^ 64) }
         ensures parts { HasSameParts mine.old mine.new }
         ensures used_up { IsErrOf result HubFault.CountsUsedUp
-            ↔ (is_used_up self.old.taken.total self.old.refused.total self.old.configured.total ≡ true) }
+            ↔ (is_used_up self.old.taken.total self.old.refused.total self.old.configured.total ≡
+            true) }
         ensures causes { OnErr result (result ≡ Err HubFault.CountsUsedUp) }
         ensures err { OnErr result ((self.new.core.state ≡ self.old.core.state)
             × AreAsBefore mine.old mine.new) }
@@ -297,7 +303,8 @@ impl<C: Core + Drop, N: Naming<C::Settings>> LockedCore<C, N> {
         ensures looked { OnlyLooks pops.old pops.new }
         ensures layout { OnOk result (IsLayoutBehind C.rules N.given pops.new.front soc
             (B.content out.old) (B.content out.new)) }
-        ensures causes { OnErr result ((result ≡ Err HubFault.NoMemory) × ForSome (B.refused out.new)) }
+        ensures causes { OnErr result ((result ≡ Err HubFault.NoMemory)
+            × ForSome (B.refused out.new)) }
         ensures err { OnErr result (B.content out.new ≡ B.content out.old) }
     {
         self.show(rt, pops);

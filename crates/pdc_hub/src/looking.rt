@@ -3,7 +3,8 @@ ghost use Rattle.std.specs.Prelude.{◌≡◌};
 ghost use Rattle.pdc_life.specs.Answer.{waiting_counts};
 ghost use Rattle.pdc_life.specs.Row.{is_whole};
 ghost use Rattle.pdc_ports.specs.pdc_arrival.Counts.{counts_after};
-ghost use Rattle.pdc_hub.specs.Counted.{AreAllParts, HasSameAmounts, HasSameParts, HaveCountedAs, configurations, sum_of};
+ghost use Rattle.pdc_hub.specs.Counted.{AreAllParts, HasSameAmounts, HasSameParts, HaveCountedAs};
+ghost use Rattle.pdc_hub.specs.Counted.{configurations, sum_of};
 ghost use Rattle.pdc_hub.specs.Pops.{HasAllTurns, OnlyLooks};
 ghost use Rattle.pdc_hub.specs.Replay.{AreSaid, WasRead};
 ghost use Rattle.pdc_log.specs.Log.{InTheLife, came_in};
@@ -22,7 +23,8 @@ impl<C: Core + Drop, N: Naming<C::Settings>> LockedCore<C, N> {
     /// How arrivals were answered.
     pub fn counts(&self) -> Counts
         ensures value { result ≡ C.counts_of self.now.core.state }
-        ensures totals { (result.taken ≡ self.now.taken.total) × (result.refused ≡ self.now.refused.total)
+        ensures totals { (result.taken ≡ self.now.taken.total)
+            × (result.refused ≡ self.now.refused.total)
             × (configurations result ≡ self.now.configured.total) }
     {
         self.core.state.counts()
@@ -44,7 +46,8 @@ impl<C: Core + Drop, N: Naming<C::Settings>> LockedCore<C, N> {
         ensures looked { OnlyLooks pops.old pops.new }
         ensures later { IsPrefix all.old.front pops.new.front }
         ensures came { came_in pops.new.front ≡ sum_of all.old }
-        ensures said { ∥ AreSaid (WasRead C.Settings.says C.Settings.fits N.settings) pops.new.front ∥₁ }
+        ensures said { ∥ AreSaid (WasRead C.Settings.says C.Settings.fits N.settings)
+            pops.new.front ∥₁ }
     {
         self.show(rt, pops);
         let counts = self.counts();
@@ -68,7 +71,8 @@ impl<C: Core + Drop, N: Naming<C::Settings>> LockedCore<C, N> {
         ensures kept { HasSameAmounts all.old all.new × HasSameParts all.old all.new }
         ensures looked { OnlyLooks pops.old pops.new }
         ensures later { IsPrefix all.old.front pops.new.front }
-        ensures said { ∥ AreSaid (WasRead C.Settings.says C.Settings.fits N.settings) pops.new.front ∥₁ }
+        ensures said { ∥ AreSaid (WasRead C.Settings.says C.Settings.fits N.settings)
+            pops.new.front ∥₁ }
     {
         self.show(rt, pops);
         self.core.log.look(rt, &mut all.front);
@@ -78,7 +82,8 @@ impl<C: Core + Drop, N: Naming<C::Settings>> LockedCore<C, N> {
     pub fn waiting<M, R: Wait>(&mut self, rt: &R, pops: &mut Pops<N, M>) -> [u16; MAX_PMUS]
         requires { HasAllTurns pops.old N.turns }
         ensures looked { OnlyLooks pops.old pops.new }
-        ensures waits { InTheLife C.rules N.given pops.new.front (λ g E. result ≡ waiting_counts g E) }
+        ensures waits { InTheLife C.rules N.given pops.new.front (λ g E. result ≡
+            waiting_counts g E) }
     {
         self.show(rt, pops);
         self.core.state.waiting()

@@ -1,7 +1,9 @@
 //! One receiver: what it reads of its source, outside the lock, it delivers.
-ghost use Rattle.std.specs.Prelude.{◌≡◌, ◌<◌, ◌≤◌, ◌^◌, IfErr, IfOk, IfSome, IsSome, List, OnErr, Some};
+ghost use Rattle.std.specs.Prelude.{◌≡◌, ◌<◌, ◌≤◌, ◌^◌, IfErr, IfOk, IfSome, IsSome, List, OnErr};
+ghost use Rattle.std.specs.Prelude.{Some};
 ghost use Rattle.pdc_hub.specs.Closing.{closing_of};
-ghost use Rattle.pdc_hub.specs.Counted.{AreAsBefore, AreOnePart, AreSomeParts, HasSameParts, HaveCountedNone, HaveCountedOne};
+ghost use Rattle.pdc_hub.specs.Counted.{AreAsBefore, AreOnePart, AreSomeParts, HasSameParts};
+ghost use Rattle.pdc_hub.specs.Counted.{HaveCountedNone, HaveCountedOne};
 ghost use Rattle.pdc_hub.specs.Faults.{IsOfDelivery, IsOfReceiver};
 ghost use Rattle.pdc_hub.specs.Received.{AreBrought, HasReceived, WasBrought};
 ghost use Rattle.pdc_ports.specs.Failures.{HasRisen};
@@ -52,7 +54,8 @@ fn hand_in<C: Core + Drop, N: Naming<C::Settings>, R: Wait>(
     requires parts { AreSomeParts shares.old }
     ensures answer { IfOk result (λ numbered. WasBrought C.rules N.given stream bytes.now
         shares.old.front shares.new.front numbered.answer) }
-    ensures counted { IfOk result (λ numbered. HaveCountedOne shares.old shares.new numbered.answer) }
+    ensures counted { IfOk result (λ numbered. HaveCountedOne shares.old shares.new
+        numbered.answer) }
     ensures most { IfOk result (λ _. (shares.new.taken.amount < 2 ^ 64)
         × (shares.new.refused.amount < 2 ^ 64)) }
     ensures parts { HasSameParts shares.old shares.new }
@@ -82,7 +85,8 @@ pub fn receive<'h, C: Core + Drop, N: Naming<C::Settings>, S: Source, R: Wait>(
     // last thing that it heard, and by a pause only where it hands back what shows that the hub was closed.
     ensures received { HasReceived (HasTold S.told source.old source.new)
         (AreBrought C.rules N.given inlet.stream result.shares.front)
-        (IsSome result.closed) result.taken result.refused result.shares.configured.amount result.fault }
+        (IsSome result.closed) result.taken result.refused result.shares.configured.amount
+        result.fault }
     ensures closed { IfSome result.closed (λ token. token.of ≡ closing_of intake.now.hub.now) }
     ensures causes { IfSome result.fault IsOfReceiver }
     ensures fault { result.fault ≡ Some HubFault.SourceFault →

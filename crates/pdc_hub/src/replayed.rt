@@ -1,5 +1,6 @@
 //! A core beside a base from which the steps since lead to it.
-ghost use Rattle.std.specs.Prelude.{◌≡◌, ◌≤◌, ◌<◌, ◌∷◌, ◌++◌, ℕ, IfOk, List, OnErr, Some, [], false, length, true};
+ghost use Rattle.std.specs.Prelude.{◌≡◌, ◌≤◌, ◌<◌, ◌∷◌, ◌++◌, ℕ, IfOk, List, OnErr, Some, []};
+ghost use Rattle.std.specs.Prelude.{false, length, true};
 ghost use Rattle.std.specs.List.{list_all};
 ghost use Rattle.pdc_core.specs.Step.{after_answer, is_allowed, ticked_of};
 ghost use Rattle.pdc_core.specs.KeptArrival.{taken_view};
@@ -34,11 +35,13 @@ pub struct Replayed<C: Core + Drop, N: Naming<C::Settings>> {
     pub limit: usize,
     of: PhantomData<N>,
     pub ghost named: { log.seen.book ≡ N.book },
-    pub ghost replays: { ∥ Records C.rules (WasRead C.Settings.says C.Settings.fits N.settings) N.given
+    pub ghost replays: { ∥ Records C.rules (WasRead C.Settings.says C.Settings.fits N.settings)
+        N.given
         (C.stands_for base) (C.stands_for state) log.seen.log events.items ∥₁ },
     pub ghost base_settings: { ∥ (N.settings ≡ Some (C.settings_of base)) ∥₁ },
     pub ghost state_settings: { ∥ (N.settings ≡ Some (C.settings_of state)) ∥₁ },
-    pub ghost allowed: { list_all (is_allowed (C.Settings.fits (C.settings_of base))) events.items ≡ true },
+    pub ghost allowed: { list_all (is_allowed (C.Settings.fits (C.settings_of base))) events.items ≡
+        true },
     pub ghost bounded: { length events.items ≤ limit },
     pub ghost room: { events.capacity ≡ limit },
     pub ghost some: { 1 ≤ limit },
@@ -114,10 +117,12 @@ impl<C: Core + Drop, N: Naming<C::Settings>> Replayed<C, N> {
             result ≡ (C.rules g E stream (taken_view taken)).outcome }
         ensures stands { C.Settings.says (C.settings_of self.old.state) stream bytes.now
             (taken_view taken) →
-            Follows C.rules (C.stands_for self.old.state) (C.stands_for self.new.state) (ToArrive stream bytes.now (taken_view taken)) }
+            Follows C.rules (C.stands_for self.old.state) (C.stands_for self.new.state)
+            (ToArrive stream bytes.now (taken_view taken)) }
         ensures logged { HasLogged (ToArrive stream bytes.now (taken_view taken))
             self.old.log.seen.log self.new.log.seen.log front.old front.new }
-        ensures counts { C.counts_of self.new.state ≡ after_answer result (C.counts_of self.old.state) }
+        ensures counts { C.counts_of self.new.state ≡
+            after_answer result (C.counts_of self.old.state) }
         ensures popped { C.popped_of self.new.state ≡ C.popped_of self.old.state }
         ensures event { self.new.events.items ≡ since self.old.limit self.old.events.items ++
             step.Arrive stream taken ∷ [] }
@@ -187,7 +192,8 @@ impl<C: Core + Drop, N: Naming<C::Settings>> Replayed<C, N> {
             IsPop result row.new (pop_answer E) }
         ensures stands { Follows C.rules (C.stands_for self.old.state)
             (C.stands_for self.new.state) ToPop }
-        ensures logged { HasLogged ToPop self.old.log.seen.log self.new.log.seen.log front.old front.new }
+        ensures logged { HasLogged ToPop self.old.log.seen.log self.new.log.seen.log front.old
+            front.new }
         ensures rises { result ≡ true → C.popped_of self.old.state < row.new.instant }
         ensures tagged { result ≡ true → CanBeTagged N.given row.new }
         ensures popped { (result ≡ true → C.popped_of self.new.state ≡ row.new.instant)
@@ -219,7 +225,8 @@ fn answered<C: Core>(state: &mut C, stream: usize, taken: &KeptArrival) -> Outco
         result ≡ (C.rules g E stream (taken_view taken.now)).outcome }
     ensures stands { (bytes : List ℕ) → C.Settings.says (C.settings_of state.old) stream bytes
         (taken_view taken.now) →
-        Follows C.rules (C.stands_for state.old) (C.stands_for state.new) (ToArrive stream bytes (taken_view taken.now)) }
+        Follows C.rules (C.stands_for state.old) (C.stands_for state.new)
+        (ToArrive stream bytes (taken_view taken.now)) }
     ensures counts { C.counts_of state.new ≡ after_answer result (C.counts_of state.old) }
     ensures popped { C.popped_of state.new ≡ C.popped_of state.old }
     ensures settings { C.settings_of state.new ≡ C.settings_of state.old }

@@ -1,6 +1,7 @@
 //! When something was reported of a sender.
 ghost use Rattle.std.specs.Prelude.{◌≡◌, None};
-ghost use Rattle.pdc_journal.specs.Complaint.{is_due, is_due_of, last_of, looked_at, looked_at_of, none_told};
+ghost use Rattle.pdc_journal.specs.Complaint.{is_due, is_due_of, last_of, looked_at};
+ghost use Rattle.pdc_journal.specs.Complaint.{looked_at_of, none_told};
 
 use crate::moment::Moment;
 use pdc_complaints::{CAUSES, Refusal};

@@ -4,7 +4,7 @@ use crate::left_out::MergedSource;
 use crate::output_tally::OutputTally;
 use crate::tally::Tally;
 use pdc_complaints::Of;
-use pdc_ports::{Counts, Refusal, Told};
+use pdc_ports::{Counts, Progress, Refusal};
 use std::alloc::{AllocError, Global};
 
 /// Appends for each cause that refused any its code, its name and how many, as `, B4 Late 3`.
@@ -26,7 +26,7 @@ fn append_causes(alloc: Global, counts: &Counts, line: &mut String) -> Result<()
 /// # Errors
 ///
 /// [`AllocError`] where there is no memory for it.
-pub fn counters_line(alloc: Global, told: &Told, unsent: u64) -> Result<String, AllocError> {
+pub fn counters_line(alloc: Global, told: &Progress, unsent: u64) -> Result<String, AllocError> {
     let counts = &told.counts;
     let (taken, refused, published, last) = (
         counts.taken,

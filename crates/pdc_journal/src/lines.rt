@@ -49,7 +49,8 @@ impl Lines {
     /// Puts a line behind those that wait. Where there is no room for it, or no line for want of memory, it is counted as dropped.
     pub fn put(&mut self, line: Option<String>)
         ensures items { self.new.waiting.items ≡ told_after line self.old.waiting.items }
-        ensures dropped { self.new.dropped ≡ dropped_after line self.old.waiting.items self.old.dropped }
+        ensures dropped { self.new.dropped ≡
+            dropped_after line self.old.waiting.items self.old.dropped }
         ensures closed { self.new.is_closed ≡ self.old.is_closed }
     {
         let is_put = match line {

@@ -22,7 +22,8 @@ impl Moment {
 
     /// How long it is from here to a later moment, and zero to an earlier one; none where either is unknown.
     pub fn until(self, later: Moment) -> Option<Duration>
-        ensures { MatchOption result (gap self later ≡ None) (λ length. gap self later ≡ Some (as_nanos length)) }
+        ensures { MatchOption result (gap self later ≡ None) (λ length. gap self later ≡
+            Some (as_nanos length)) }
     {
         match (self.at, later.at) {
             (Some(at), Some(later)) => Some(later.duration_since(at)),

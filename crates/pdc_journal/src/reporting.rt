@@ -9,7 +9,7 @@ use crate::left_out::LeftOut;
 use crate::moment::Moment;
 use crate::output_tally::OutputTally;
 use crate::tally::Tally;
-use pdc_ports::{Ticker, Told};
+use pdc_ports::{Progress, Ticker};
 use std::alloc::Global;
 use std::rt::Clock;
 use std::sync::Wait;
@@ -83,7 +83,7 @@ impl<'a, T: Ticker + Drop, R: Clock + Wait> Ticker for Reporting<'a, T, R> {
         }
     }
 
-    fn tell(&mut self, told: &Told) {
+    fn tell(&mut self, told: &Progress) {
         self.since = Moment::now(self.rt);
         let unsent = self.counters.unsent.load(Ordering::Relaxed);
         self.journal

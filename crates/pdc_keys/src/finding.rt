@@ -4,7 +4,9 @@ ghost use Rattle.toml.specs.Data.{as_table};
 ghost use Rattle.toml.specs.View.{items_view, table_view, view};
 ghost use Rattle.pdc_keys.specs.Keys.{items_at};
 ghost use Rattle.pdc_keys.specs.Known.{merged_node_keys};
-ghost use Rattle.pdc_keys.specs.Unknown.{is_one_of, keys_in, keys_of, known_of_pmu, unknown_among, unknown_fields, unknown_from, unknown_in, unknown_of};
+ghost use Rattle.pdc_keys.specs.Unknown.{is_one_of, keys_in, keys_of, known_of_pmu};
+ghost use Rattle.pdc_keys.specs.Unknown.{unknown_among, unknown_fields, unknown_from, unknown_in};
+ghost use Rattle.pdc_keys.specs.Unknown.{unknown_of};
 ghost use Rattle.pdc_keys.specs.Wanting.{IsWantOfKeys};
 ghost use Rattle.pdc_keys.specs.declared.unknown.TableName.TheVariants.{Node, Pmu};
 
@@ -34,7 +36,8 @@ fn unknown_of(
     known: &[&'static str],
     key: &str,
 ) -> Result<UnknownKey, AllocError>
-    ensures fields { IfOk result (λ found. unknown_fields found ≡ unknown_of table (map (λ n. n.now) known.now) key.now) }
+    ensures fields { IfOk result (λ found. unknown_fields found ≡
+        unknown_of table (map (λ n. n.now) known.now) key.now) }
     ensures wanted { OnErr result IsWantOfKeys }
 {
     let nearest = nearest_of(alloc, key, known)?;
@@ -54,7 +57,9 @@ fn push_key(
     key: &str,
     found: &mut Vec<UnknownKey>,
 ) -> Result<(), AllocError>
-    ensures found { OnOk result (map unknown_fields found.new.items ≡ map unknown_fields found.old.items ++ unknown_among table (map (λ n. n.now) known.now) (key.now ∷ [])) }
+    ensures found { OnOk result (map unknown_fields found.new.items ≡
+        map unknown_fields found.old.items ++
+        unknown_among table (map (λ n. n.now) known.now) (key.now ∷ [])) }
     ensures wanted { OnErr result IsWantOfKeys }
 {
     if is_one_of(key, known) {
@@ -74,7 +79,9 @@ fn push_keys(
     members: &Table,
     found: &mut Vec<UnknownKey>,
 ) -> Result<(), AllocError>
-    ensures found { OnOk result (map unknown_fields found.new.items ≡ map unknown_fields found.old.items ++ unknown_among table (map (λ n. n.now) known.now) (keys_of (table_view members.now))) }
+    ensures found { OnOk result (map unknown_fields found.new.items ≡
+        map unknown_fields found.old.items ++
+        unknown_among table (map (λ n. n.now) known.now) (keys_of (table_view members.now))) }
     ensures wanted { OnErr result IsWantOfKeys }
 {
     for key in members.keys() {
@@ -91,7 +98,9 @@ fn push_value(
     value: &Value,
     found: &mut Vec<UnknownKey>,
 ) -> Result<(), AllocError>
-    ensures found { OnOk result (map unknown_fields found.new.items ≡ map unknown_fields found.old.items ++ unknown_among table (map (λ n. n.now) known.now) (keys_in (as_table (view value.now)))) }
+    ensures found { OnOk result (map unknown_fields found.new.items ≡
+        map unknown_fields found.old.items ++
+        unknown_among table (map (λ n. n.now) known.now) (keys_in (as_table (view value.now)))) }
     ensures wanted { OnErr result IsWantOfKeys }
 {
     match value.as_table() {
@@ -106,7 +115,9 @@ fn push_nodes(
     values: &[Value],
     found: &mut Vec<UnknownKey>,
 ) -> Result<(), AllocError>
-    ensures found { OnOk result (map unknown_fields found.new.items ≡ map unknown_fields found.old.items ++ unknown_from Node merged_node_keys 1 (items_view values.now)) }
+    ensures found { OnOk result (map unknown_fields found.new.items ≡
+        map unknown_fields found.old.items ++
+        unknown_from Node merged_node_keys 1 (items_view values.now)) }
     ensures wanted { OnErr result IsWantOfKeys }
 {
     for at in 0..values.len() {
@@ -123,7 +134,9 @@ fn push_pmus(
     values: &[Value],
     found: &mut Vec<UnknownKey>,
 ) -> Result<(), AllocError>
-    ensures found { OnOk result (map unknown_fields found.new.items ≡ map unknown_fields found.old.items ++ unknown_from Pmu (map (λ n. n.now) known.now) 1 (items_view values.now)) }
+    ensures found { OnOk result (map unknown_fields found.new.items ≡
+        map unknown_fields found.old.items ++
+        unknown_from Pmu (map (λ n. n.now) known.now) 1 (items_view values.now)) }
     ensures wanted { OnErr result IsWantOfKeys }
 {
     for at in 0..values.len() {
@@ -160,7 +173,8 @@ fn listed<'t>(table: &'t Table, key: &str) -> &'t [Value]
 ///
 /// A request for memory was refused, or `strsim` answered so.
 pub fn unknown_keys_in(alloc: Global, table: &Table) -> Result<Vec<UnknownKey>, AllocError>
-    ensures found { IfOk result (λ found. map unknown_fields found.items ≡ unknown_in (table_view table.now)) }
+    ensures found { IfOk result (λ found. map unknown_fields found.items ≡
+        unknown_in (table_view table.now)) }
     ensures wanted { OnErr result IsWantOfKeys }
 {
     let mut found = Vec::new(alloc);

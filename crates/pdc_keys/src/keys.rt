@@ -1,5 +1,6 @@
 //! The values at the keys of a settings text.
-ghost use Rattle.std.specs.Prelude.{◌≡◌, ◌≤◌, IfSome, IfOk, None, OnErr, Some, ok_or, option_and_then, option_map};
+ghost use Rattle.std.specs.Prelude.{◌≡◌, ◌≤◌, IfSome, IfOk, None, OnErr, Some, ok_or};
+ghost use Rattle.std.specs.Prelude.{option_and_then, option_map};
 ghost use Rattle.toml.specs.Data.{as_array, get_member};
 ghost use Rattle.toml.specs.View.{items_view, table_view, view};
 ghost use Rattle.pdc_keys.specs.Keys.{in_range, number_at, number_in, number_or, optional_number};
@@ -16,7 +17,8 @@ pub fn value_at<'t>(table: &'t Table, key: &str) -> Option<&'t Value>
 
 /// The values of the list at a key.
 pub fn values_at<'t>(table: &'t Table, key: &str) -> Option<&'t [Value]>
-    ensures { option_map (λ v. items_view v.now) result ≡ option_and_then as_array (get_member key.now (table_view table.now)) }
+    ensures { option_map (λ v. items_view v.now) result ≡
+        option_and_then as_array (get_member key.now (table_view table.now)) }
 {
     match value_at(table, key) {
         Some(value) => match value.as_array() {

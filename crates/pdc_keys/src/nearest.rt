@@ -41,7 +41,8 @@ fn nearer(
     name: &'static str,
     other: Option<&'static str>,
 ) -> Result<Option<&'static str>, AllocError>
-    ensures nearer { IfOk result (λ found. option_map (λ n. n.now) found ≡ nearer key.now name.now (option_map (λ n. n.now) other.entry)) }
+    ensures nearer { IfOk result (λ found. option_map (λ n. n.now) found ≡
+        nearer key.now name.now (option_map (λ n. n.now) other.entry)) }
     ensures wanted { OnErr result SomeEditsWanted }
 {
     let Some(other) = other else {
@@ -61,7 +62,8 @@ pub(crate) fn nearest_of(
     key: &str,
     names: &[&'static str],
 ) -> Result<Option<&'static str>, AllocError>
-    ensures nearest { IfOk result (λ found. option_map (λ n. n.now) found ≡ nearest_of key.now (map (λ n. n.now) names.now)) }
+    ensures nearest { IfOk result (λ found. option_map (λ n. n.now) found ≡
+        nearest_of key.now (map (λ n. n.now) names.now)) }
     ensures wanted { OnErr result SomeEditsWanted }
 {
     let Some((name, others)) = names.split_first() else {

@@ -22,7 +22,10 @@ pub struct Settings {
     pub pmus: ArrayVec<Pmu, MAX_PMUS>,
     pub ghost some: { 0 < length pmus.items },
     pub ghost few: { length pmus.items ≤ MAX_PMUS },
-    pub ghost bases: { IsTrue (list_all (λ (pmu : PmuData). nat_le output.rate pmu.time_base) pmus.items) },
-    pub ghost streams: { IsTrue (are_distinct (output.id.value ∷ map (λ (pmu : PmuData). pmu.stream.value) pmus.items)) },
-    pub ghost sources: { IsTrue (are_distinct (output.id.value ∷ map (λ (pmu : PmuData). pmu.source) pmus.items)) },
+    pub ghost bases: { IsTrue (list_all (λ (pmu : PmuData). nat_le output.rate pmu.time_base)
+        pmus.items) },
+    pub ghost streams: { IsTrue (are_distinct (output.id.value ∷
+        map (λ (pmu : PmuData). pmu.stream.value) pmus.items)) },
+    pub ghost sources: { IsTrue (are_distinct (output.id.value ∷
+        map (λ (pmu : PmuData). pmu.source) pmus.items)) },
 }

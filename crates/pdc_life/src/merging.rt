@@ -38,7 +38,9 @@ pub struct MergerSettings {
     pub ghost second_base: { output.rate ≤ second.time_base },
     pub ghost some: { 0 < length sources.items },
     pub ghost few: { length sources.items ≤ MAX_PMUS },
-    pub ghost in_range: { IsTrue (list_all (λ source. nat_lt 0 source && nat_le source MAX_ID) sources.items) },
+    pub ghost in_range: { IsTrue (list_all (λ source. nat_lt 0 source && nat_le source MAX_ID)
+        sources.items) },
     pub ghost own: { IsTrue (are_distinct (output.id.value ∷ sources.items)) },
-    pub ghost distinct: { IsTrue (are_distinct (first.id.value ∷ second.id.value ∷ sources.items)) },
+    pub ghost distinct: { IsTrue (are_distinct (first.id.value ∷ second.id.value ∷
+        sources.items)) },
 }

@@ -51,7 +51,9 @@ pub fn read_arrival<'a>(settings: &Settings, pmu: &Pmu, bytes: &'a [u8]) -> Read
 
 /// What a data frame of the PMU's stream says.
 fn read_data<'a>(settings: &Settings, pmu: &Pmu, frame: &Frame<'a>) -> Reading<'a>
-    ensures { (p : ℕ) (bytes : List ℕ) → IsOfStream (stream_of settings.now pmu.now) bytes (fields_of frame.now) → frame.now.kind ≡ DataFrame
+    ensures { (p : ℕ) (bytes : List ℕ) →
+        IsOfStream (stream_of settings.now pmu.now) bytes (fields_of frame.now) →
+        frame.now.kind ≡ DataFrame
         → Reads settings.now p pmu.now bytes (arrival_view p result) }
 {
     let rate = u32::from(settings.output.rate);
@@ -68,7 +70,9 @@ fn read_data<'a>(settings: &Settings, pmu: &Pmu, frame: &Frame<'a>) -> Reading<'
 /// What a CFG-2 frame of the PMU's stream says. It is seldom, and so a call of its own, with a frame of its own: that of data stays in registers.
 #[inline(never)]
 fn read_configuration<'a>(settings: &Settings, pmu: &Pmu, frame: Frame<'a>) -> Reading<'a>
-    ensures { (p : ℕ) (bytes : List ℕ) → IsOfStream (stream_of settings.now pmu.now) bytes (fields_of frame.entry) → frame.entry.kind ≡ Cfg2
+    ensures { (p : ℕ) (bytes : List ℕ) →
+        IsOfStream (stream_of settings.now pmu.now) bytes (fields_of frame.entry) →
+        frame.entry.kind ≡ Cfg2
         → Reads settings.now p pmu.now bytes (arrival_view p result) }
 {
     match read_config(&frame) {
@@ -79,7 +83,8 @@ fn read_configuration<'a>(settings: &Settings, pmu: &Pmu, frame: Frame<'a>) -> R
 
 /// What a configuration of the PMU's stream says.
 fn read_section<'a>(settings: &Settings, pmu: &Pmu, config: &ConfigView<'a>) -> Reading<'a>
-    ensures { (p : ℕ) (bytes : List ℕ) → HasConfig (stream_of settings.now pmu.now) bytes (config_fields_of config.now)
+    ensures { (p : ℕ) (bytes : List ℕ) →
+        HasConfig (stream_of settings.now pmu.now) bytes (config_fields_of config.now)
         → Reads settings.now p pmu.now bytes (arrival_view p result) }
 {
     if config.sections.len() != 1 {

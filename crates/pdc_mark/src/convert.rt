@@ -24,7 +24,8 @@ impl<D: Disk> DiskMark<D> {
             (IsConverted (O.seen old_disk.old) (D.seen new_disk.new)) }
         ensures durable { OnOk result (AllSettled (D.is_settled new_disk.new)) }
         ensures refusal { IfErr result (λ fault.
-            (IsOldRefusal (O.seen old_disk.old) (O.failures old_disk.old) (O.failures old_disk.new) fault
+            (IsOldRefusal (O.seen old_disk.old) (O.failures old_disk.old) (O.failures old_disk.new)
+            fault
             × (new_disk.new ≡ new_disk.old))
             ⊎ ((fault ≡ MarkFault.Device)
             × HasFailed (D.failures new_disk.old) (D.failures new_disk.new))) }

@@ -1,5 +1,6 @@
 //! A mark on a disk, in two slots.
-ghost use Rattle.std.specs.Prelude.{◌≡◌, ◌⊎◌, ◌+◌, ◌<◌, ◌≤◌, ◌↔◌, true, false, length, IsErr, IfErr, IfOk, OnOk, OnErr, IsErrOf};
+ghost use Rattle.std.specs.Prelude.{◌≡◌, ◌⊎◌, ◌+◌, ◌<◌, ◌≤◌, ◌↔◌, true, false, length, IsErr};
+ghost use Rattle.std.specs.Prelude.{IfErr, IfOk, OnOk, OnErr, IsErrOf};
 ghost use Rattle.pdc_disk.specs.Disk.{AllSettled, HasFailed, StaySettled};
 ghost use Rattle.pdc_mark.specs.declared.layout.TheConstants.{MARK_LEN};
 ghost use Rattle.pdc_mark.specs.Faults.{IsRefusal};
@@ -31,7 +32,8 @@ pub struct DiskMark<D: Disk> {
     held: Place,
     is_other_closed: bool,
     is_broken: bool,
-    ghost stands: { is_broken ≡ false → IsHeld (D.seen disk) (D.is_settled disk) held is_other_closed },
+    ghost stands: { is_broken ≡ false →
+        IsHeld (D.seen disk) (D.is_settled disk) held is_other_closed },
     ghost told: { is_broken ≡ false → slot_in (D.seen disk) held ≡ slot },
     ghost whole: { MARK_LEN ≤ D.safe → is_broken ≡ false },
 }
@@ -44,7 +46,8 @@ pub struct Refused<D> {
 }
 
 impl<D: Disk> DiskMark<D> {
-    ghost use Rattle.pdc_mark.specs.DiskMark.{disk_of, first_file, first_mark, is_broken_of, mark_on, StopLeaves};
+    ghost use Rattle.pdc_mark.specs.DiskMark.{disk_of, first_file, first_mark, is_broken_of};
+    ghost use Rattle.pdc_mark.specs.DiskMark.{mark_on, StopLeaves};
 
     /// Makes the mark file of this id and rate, with start 0, floor 0 and counts 0, over whatever the disk holds.
     ///
@@ -92,7 +95,8 @@ impl<D: Disk> DiskMark<D> {
     /// hasn't 256, `Damaged` where no slot is open, `OtherOwner`.
     pub fn open(mut disk: D, id: u16, rate: u16) -> Result<DiskMark<D>, Refused<D>>
         ensures mark { IfOk result (λ mark. HasJust (mark_on mark) (D.seen disk)) }
-        ensures owner { IfOk result (λ mark. ((mark_on mark).id ≡ id) × ((mark_on mark).rate ≡ rate)) }
+        ensures owner { IfOk result (λ mark. ((mark_on mark).id ≡ id)
+            × ((mark_on mark).rate ≡ rate)) }
         ensures durable { IfOk result (λ mark. StopLeaves mark (HasJust (mark_on mark))) }
         ensures seen { IfOk result (λ mark. D.seen (disk_of mark) ≡ D.seen disk) }
         ensures whole { IfOk result (λ mark. is_broken_of mark ≡ false) }
@@ -102,7 +106,8 @@ impl<D: Disk> DiskMark<D> {
         ensures refused { IfErr result (λ refused. D.seen refused.disk ≡ D.seen disk) }
         ensures settled { IfErr result (λ refused. StaySettled
             (D.is_settled disk) (D.is_settled refused.disk)) }
-        ensures safe { MARK_LEN ≤ D.safe → IfErr result (λ refused. refused.fault ≡ MarkFault.Device → ⊥) }
+        ensures safe { MARK_LEN ≤ D.safe →
+            IfErr result (λ refused. refused.fault ≡ MarkFault.Device → ⊥) }
     {
         match find_owned(&mut disk, id, rate) {
             Ok(found) => Ok(DiskMark {
@@ -127,8 +132,10 @@ impl<D: Disk> DiskMark<D> {
         ensures owner { IfOk result (λ mark. ((mark_on mark).id ≡ (mark_on self).id)
             × ((mark_on mark).rate ≡ (mark_on self).rate)) }
         ensures seen { IfOk result (λ mark. D.seen (disk_of mark) ≡ D.seen (disk_of self)) }
-        ensures failures { IfOk result (λ mark. D.failures (disk_of mark) ≡ D.failures (disk_of self)) }
-        ensures same { is_broken_of self ≡ false → IfOk result (λ mark. mark_on mark ≡ mark_on self) }
+        ensures failures { IfOk result (λ mark. D.failures (disk_of mark) ≡
+            D.failures (disk_of self)) }
+        ensures same { is_broken_of self ≡ false →
+            IfOk result (λ mark. mark_on mark ≡ mark_on self) }
         ensures only_device { is_broken_of self ≡ false
             → IfErr result (λ refused. refused.fault ≡ MarkFault.Device) }
         ensures durable { IfOk result (λ mark. StopLeaves mark (HasJust (mark_on mark))) }
@@ -139,7 +146,8 @@ impl<D: Disk> DiskMark<D> {
         ensures refused { IfErr result (λ refused. D.seen refused.disk ≡ D.seen (disk_of self)) }
         ensures settled { IfErr result (λ refused. StaySettled
             (D.is_settled (disk_of self)) (D.is_settled refused.disk)) }
-        ensures safe { MARK_LEN ≤ D.safe → IfErr result (λ refused. refused.fault ≡ MarkFault.Device → ⊥) }
+        ensures safe { MARK_LEN ≤ D.safe →
+            IfErr result (λ refused. refused.fault ≡ MarkFault.Device → ⊥) }
     {
         DiskMark::open(self.disk, self.slot.id, self.slot.rate)
     }
@@ -154,14 +162,16 @@ impl<D: Disk> DiskMark<D> {
 }
 
 impl<D: Disk> DiskMark<D> {
-    ghost use Rattle.pdc_mark.specs.DiskMark.{disk_of, is_broken_of, mark_on, stored_of, with_stored, HasCauseOnDisk, StopLeaves};
+    ghost use Rattle.pdc_mark.specs.DiskMark.{disk_of, is_broken_of, mark_on, stored_of};
+    ghost use Rattle.pdc_mark.specs.DiskMark.{with_stored, HasCauseOnDisk, StopLeaves};
 
     /// Stores a greater mark of the same owner. After a fault the mark is broken.
     fn put(&mut self, next: Stored) -> Result<(), MarkFault>
         requires { is_below (stored_of self.old) next ≡ true }
         ensures ok { OnOk result (mark_on self.new ≡ with_stored (mark_on self.old) next) }
         ensures err { OnErr result (mark_on self.new ≡ mark_on self.old) }
-        ensures file { OnOk result (D.seen (disk_of self.new) ≡ file_after (D.seen (disk_of self.old)) (mark_on self.new)) }
+        ensures file { OnOk result (D.seen (disk_of self.new) ≡
+            file_after (D.seen (disk_of self.old)) (mark_on self.new)) }
         ensures faults { OnErr result (IsErrOf result MarkFault.Device) }
         ensures cause { HasCauseOnDisk self.old self.new result }
         ensures safe { MARK_LEN ≤ D.safe → IsErrOf result MarkFault.Device → ⊥ }
@@ -189,7 +199,8 @@ impl<D: Disk> DiskMark<D> {
 }
 
 impl<D: Disk> Mark for DiskMark<D> {
-    ghost use Rattle.pdc_mark.specs.DiskMark.{disk_of, is_broken_of, mark_on, stored_of, with_stored, HasCauseOnDisk, StopLeaves};
+    ghost use Rattle.pdc_mark.specs.DiskMark.{disk_of, is_broken_of, mark_on, stored_of};
+    ghost use Rattle.pdc_mark.specs.DiskMark.{with_stored, HasCauseOnDisk, StopLeaves};
 
     ghost stored = { stored_of };
 
@@ -224,15 +235,18 @@ impl<D: Disk> Mark for DiskMark<D> {
         ensures safe { MARK_LEN ≤ D.safe → IsErrOf result MarkFault.Device → ⊥ }
 
         // The mark has the same owner.
-        ensures mark { OnOk result (mark_on self.new ≡ with_stored (mark_on self.old) (with_next_start (stored_of self.old))) }
+        ensures mark { OnOk result (mark_on self.new ≡
+            with_stored (mark_on self.old) (with_next_start (stored_of self.old))) }
         ensures mark_err { OnErr result (mark_on self.new ≡ mark_on self.old) }
 
         // After `Ok` its fields stand in the slot that didn't hold the old one, behind an open gate.
-        ensures file { OnOk result (D.seen (disk_of self.new) ≡ file_after (D.seen (disk_of self.old)) (mark_on self.new)) }
+        ensures file { OnOk result (D.seen (disk_of self.new) ≡
+            file_after (D.seen (disk_of self.old)) (mark_on self.new)) }
 
         // What a stop leaves has the old mark or the new one, and after `Ok` the new one.
         ensures images { is_broken_of self.old ≡ false → StopLeaves self.new
-            (HasEither (mark_on self.old) (with_stored (mark_on self.old) (with_next_start (stored_of self.old)))) }
+            (HasEither (mark_on self.old) (with_stored (mark_on self.old)
+            (with_next_start (stored_of self.old)))) }
         ensures after { OnOk result (StopLeaves self.new (HasJust (mark_on self.new))) }
 
         // A call that finds a fault standing, or no start number left, makes no device call.
@@ -259,15 +273,18 @@ impl<D: Disk> Mark for DiskMark<D> {
         ensures safe { MARK_LEN ≤ D.safe → IsErrOf result MarkFault.Device → ⊥ }
 
         // The mark has the same owner.
-        ensures mark { OnOk result (mark_on self.new ≡ with_stored (mark_on self.old) (with_floor (stored_of self.old) floor)) }
+        ensures mark { OnOk result (mark_on self.new ≡
+            with_stored (mark_on self.old) (with_floor (stored_of self.old) floor)) }
         ensures mark_err { OnErr result (mark_on self.new ≡ mark_on self.old) }
 
         // After `Ok` its fields stand in the slot that didn't hold the old one, behind an open gate.
-        ensures file { OnOk result (D.seen (disk_of self.new) ≡ file_after (D.seen (disk_of self.old)) (mark_on self.new)) }
+        ensures file { OnOk result (D.seen (disk_of self.new) ≡
+            file_after (D.seen (disk_of self.old)) (mark_on self.new)) }
 
         // What a stop leaves has the old mark or the new one, and after `Ok` the new one.
         ensures images { is_broken_of self.old ≡ false → StopLeaves self.new
-            (HasEither (mark_on self.old) (with_stored (mark_on self.old) (with_floor (stored_of self.old) floor))) }
+            (HasEither (mark_on self.old) (with_stored (mark_on self.old)
+            (with_floor (stored_of self.old) floor))) }
         ensures after { OnOk result (StopLeaves self.new (HasJust (mark_on self.new))) }
 
         // A call that finds a fault standing makes no device call.
@@ -278,22 +295,26 @@ impl<D: Disk> Mark for DiskMark<D> {
 
     fn raise(&mut self, counts: &[u16; COUNTS]) -> Result<(), MarkFault>
         requires { IsRaise (stored_of self.old).counts counts.now }
-        ensures ok { OnOk result (stored_of self.new ≡ with_counts (stored_of self.old) counts.now) }
+        ensures ok { OnOk result (stored_of self.new ≡
+            with_counts (stored_of self.old) counts.now) }
         ensures err { OnErr result (stored_of self.new ≡ stored_of self.old) }
         ensures faults { OnErr result (IsErrOf result MarkFault.Device) }
         ensures cause { HasCauseOnDisk self.old self.new result }
         ensures safe { MARK_LEN ≤ D.safe → IsErrOf result MarkFault.Device → ⊥ }
 
         // The mark has the same owner.
-        ensures mark { OnOk result (mark_on self.new ≡ with_stored (mark_on self.old) (with_counts (stored_of self.old) counts.now)) }
+        ensures mark { OnOk result (mark_on self.new ≡
+            with_stored (mark_on self.old) (with_counts (stored_of self.old) counts.now)) }
         ensures mark_err { OnErr result (mark_on self.new ≡ mark_on self.old) }
 
         // After `Ok` its fields stand in the slot that didn't hold the old one, behind an open gate.
-        ensures file { OnOk result (D.seen (disk_of self.new) ≡ file_after (D.seen (disk_of self.old)) (mark_on self.new)) }
+        ensures file { OnOk result (D.seen (disk_of self.new) ≡
+            file_after (D.seen (disk_of self.old)) (mark_on self.new)) }
 
         // What a stop leaves has the old mark or the new one, and after `Ok` the new one.
         ensures images { is_broken_of self.old ≡ false → StopLeaves self.new
-            (HasEither (mark_on self.old) (with_stored (mark_on self.old) (with_counts (stored_of self.old) counts.now))) }
+            (HasEither (mark_on self.old) (with_stored (mark_on self.old)
+            (with_counts (stored_of self.old) counts.now))) }
         ensures after { OnOk result (StopLeaves self.new (HasJust (mark_on self.new))) }
 
         // A call that finds a fault standing makes no device call.

@@ -1,11 +1,13 @@
 //! What a stored mark is to whoever opens a life with it.
-ghost use Rattle.std.specs.Prelude.{◌≡◌, ◌⊎◌, ◌+◌, ◌<◌, ◌≤◌, ◌↔◌, ℕ, Bool, false, length, IfOk, IsTrue, OnOk, OnErr, IsErrOf, if◌then◌else◌};
+ghost use Rattle.std.specs.Prelude.{◌≡◌, ◌⊎◌, ◌+◌, ◌<◌, ◌≤◌, ◌↔◌, ℕ, Bool, false, length, IfOk};
+ghost use Rattle.std.specs.Prelude.{IsTrue, OnOk, OnErr, IsErrOf, if◌then◌else◌};
 ghost use Rattle.pdc_disk.specs.Disk.{HasFailed};
 ghost use Rattle.pdc_mark.specs.declared.layout.TheConstants.{COUNTS};
 ghost use Rattle.pdc_mark.specs.declared.stored.Stored.{Stored};
 ghost use Rattle.pdc_mark.specs.Counts.{IsGreater, IsRaise, raised_to};
 ghost use Rattle.pdc_mark.specs.Faults.{HasDeviceCause};
-ghost use Rattle.pdc_mark.specs.Stored.{with_counts, with_floor, with_instant, with_next_start, with_waiting};
+ghost use Rattle.pdc_mark.specs.Stored.{with_counts, with_floor, with_instant, with_next_start};
+ghost use Rattle.pdc_mark.specs.Stored.{with_waiting};
 
 use crate::fault::MarkFault;
 use crate::greater::{needed_floor, raised};
@@ -94,11 +96,14 @@ pub trait Mark {
         ensures covered { OnOk result (instant ≤ (stored self.new).floor) }
         ensures rises { (stored self.old).floor ≤ (stored self.new).floor }
         ensures err { OnErr result (stored self.new ≡ stored self.old) }
-        ensures spared { instant ≤ (stored self.old).floor → (self.new ≡ self.old) × OnErr result ⊥ }
+        ensures spared { instant ≤ (stored self.old).floor →
+            (self.new ≡ self.old) × OnErr result ⊥ }
         ensures faults { OnErr result (IsErrOf result MarkFault.Device) }
-        ensures cause { (stored self.old).floor < instant → HasDeviceCause (is_broken self.old) (is_broken self.new)
+        ensures cause { (stored self.old).floor < instant →
+            HasDeviceCause (is_broken self.old) (is_broken self.new)
             (failures self.old) (failures self.new) result }
-        ensures device { OnErr result (IsTrue (is_broken self.old) ⊎ HasFailed (failures self.old) (failures self.new)) }
+        ensures device { OnErr result (IsTrue (is_broken self.old) ⊎ HasFailed (failures self.old)
+            (failures self.new)) }
         ensures broken { OnOk result (is_broken self.new ≡ is_broken self.old) }
         ensures failures { failures self.old ≤ failures self.new }
         ensures safe { is_safe → OnErr result ⊥ }
@@ -117,13 +122,18 @@ pub trait Mark {
     /// `Device`.
     fn raise_to(&mut self, waiting: &[u16; COUNTS]) -> Result<(), MarkFault>
         ensures ok { OnOk result (stored self.new ≡ with_waiting waiting.now (stored self.old)) }
-        ensures greater { OnOk result (IsGreater (stored self.old).counts waiting.now (stored self.new).counts) }
+        ensures greater { OnOk result (IsGreater (stored self.old).counts waiting.now
+            (stored self.new).counts) }
         ensures err { OnErr result (stored self.new ≡ stored self.old) }
-        ensures spared { (stored self.old).counts ≡ raised_to (stored self.old).counts waiting.now → (self.new ≡ self.old) × OnErr result ⊥ }
+        ensures spared { (stored self.old).counts ≡ raised_to (stored self.old).counts waiting.now →
+            (self.new ≡ self.old) × OnErr result ⊥ }
         ensures faults { OnErr result (IsErrOf result MarkFault.Device) }
-        ensures cause { ((stored self.old).counts ≡ raised_to (stored self.old).counts waiting.now → ⊥)
-            → HasDeviceCause (is_broken self.old) (is_broken self.new) (failures self.old) (failures self.new) result }
-        ensures device { OnErr result (IsTrue (is_broken self.old) ⊎ HasFailed (failures self.old) (failures self.new)) }
+        ensures cause { ((stored self.old).counts ≡ raised_to (stored self.old).counts waiting.now →
+            ⊥)
+            → HasDeviceCause (is_broken self.old) (is_broken self.new) (failures self.old)
+            (failures self.new) result }
+        ensures device { OnErr result (IsTrue (is_broken self.old) ⊎ HasFailed (failures self.old)
+            (failures self.new)) }
         ensures broken { OnOk result (is_broken self.new ≡ is_broken self.old) }
         ensures failures { failures self.old ≤ failures self.new }
         ensures safe { is_safe → OnErr result ⊥ }

@@ -1,7 +1,8 @@
 //! The slots of a mark file.
 ghost use Rattle.std.specs.Prelude.{◌≡◌, ℕ, ◌+◌, ◌^◌, ◌<◌, ◌≤◌, length, slice_index};
 ghost use Rattle.pdc_mark.specs.Counts.{count_bytes, counts_of};
-ghost use Rattle.pdc_mark.specs.declared.layout.TheConstants.{COUNTS, COUNTS_AT, COUNTS_LEN, FIELDS_LEN, SLOT_LEN};
+ghost use Rattle.pdc_mark.specs.declared.layout.TheConstants.{COUNTS, COUNTS_AT, COUNTS_LEN};
+ghost use Rattle.pdc_mark.specs.declared.layout.TheConstants.{FIELDS_LEN, SLOT_LEN};
 
 use crate::layout::{
     COUNTS, COUNTS_AT, COUNTS_LEN, FIELDS_AT, FIELDS_END, FIELDS_LEN, FLOOR_AT, RATE_AT, SLOT_LEN,
@@ -70,7 +71,8 @@ fn count_bytes(counts: &[u16; COUNTS]) -> [u8; COUNTS_LEN]
 }
 
 impl Slot {
-    ghost use Rattle.pdc_mark.specs.Slots.{fields_of, numbers_of, slot_at, slot_bytes, slot_with, FitsWidths};
+    ghost use Rattle.pdc_mark.specs.Slots.{fields_of, numbers_of, slot_at, slot_bytes, slot_with};
+    ghost use Rattle.pdc_mark.specs.Slots.{FitsWidths};
 
     /// The bytes of the fields before the counts.
     fn numbers(self) -> [u8; COUNTS_AT]

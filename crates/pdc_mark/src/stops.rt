@@ -1,8 +1,10 @@
 //! Marks that a world can stop: each call leaves the mark as it is opened after the stop.
 ghost use Rattle.std.specs.Prelude.{◌≡◌, ◌+◌, ◌<◌, ◌≤◌, false, if◌then◌else◌};
 ghost use Rattle.pdc_mark.specs.Counts.{IsRaise};
-ghost use Rattle.pdc_mark.specs.Stops.{Between, InBegin, InRaise, InReserve, Stop, StopsInRaise, stop_in_reserving};
-ghost use Rattle.pdc_mark.specs.Stored.{with_counts, with_floor, with_instant, with_next_start, with_waiting};
+ghost use Rattle.pdc_mark.specs.Stops.{Between, InBegin, InRaise, InReserve, Stop, StopsInRaise};
+ghost use Rattle.pdc_mark.specs.Stops.{stop_in_reserving};
+ghost use Rattle.pdc_mark.specs.Stored.{with_counts, with_floor, with_instant, with_next_start};
+ghost use Rattle.pdc_mark.specs.Stored.{with_waiting};
 
 use crate::greater::{needed_floor, raised};
 use crate::layout::COUNTS;
@@ -37,16 +39,19 @@ pub trait Store: Mark {
     fn raise_stopped(&mut self, counts: &[u16; COUNTS], landed: bool)
         requires { IsRaise (Self.stored self.old).counts counts.now }
         ensures stored { Self.stored self.new
-            ≡ (if landed then with_counts (Self.stored self.old) counts.now else Self.stored self.old) }
+            ≡ (if landed then with_counts (Self.stored self.old) counts.now else Self.stored
+            self.old) }
         ensures left { stops_as (InRaise counts.now landed) self.old self.new };
 
     /// A stop in `reserve_for`; where it stores nothing, a stop between stores.
     fn reserve_for_stopped(&mut self, instant: u64, lead: u16, landed: bool)
         requires { instant + lead ≤ u64.MAX }
         ensures stored { Self.stored self.new
-            ≡ (if landed then with_instant lead instant (Self.stored self.old) else Self.stored self.old) }
+            ≡ (if landed then with_instant lead instant (Self.stored self.old) else Self.stored
+            self.old) }
         ensures rises { (Self.stored self.old).floor ≤ (Self.stored self.new).floor }
-        ensures left { stops_as (stop_in_reserving landed lead instant (Self.stored self.old).floor) self.old self.new }
+        ensures left { stops_as (stop_in_reserving landed lead instant
+            (Self.stored self.old).floor) self.old self.new }
     {
         let (_, floor) = self.stored();
         match needed_floor(floor, instant, lead) {
@@ -58,8 +63,10 @@ pub trait Store: Mark {
     /// A stop in `raise_to`; where it stores nothing, a stop between stores.
     fn raise_to_stopped(&mut self, waiting: &[u16; COUNTS], landed: bool)
         ensures stored { Self.stored self.new
-            ≡ (if landed then with_waiting waiting.now (Self.stored self.old) else Self.stored self.old) }
-        ensures left { StopsInRaise stops_as landed waiting.now (Self.stored self.old).counts self.old self.new }
+            ≡ (if landed then with_waiting waiting.now (Self.stored self.old) else Self.stored
+            self.old) }
+        ensures left { StopsInRaise stops_as landed waiting.now (Self.stored self.old).counts
+            self.old self.new }
     {
         match raised(&self.counts(), waiting) {
             Some(counts) => self.raise_stopped(&counts, landed),

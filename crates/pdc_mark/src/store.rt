@@ -14,7 +14,8 @@ use pdc_disk::{Disk, DiskFault};
 /// Closes the gate of the other slot. The mark stands at `held`.
 fn close_gate<D: Disk>(disk: &mut D, held: Place) -> Result<(), DiskFault>
     requires { IsHeld (D.seen disk.old) (D.is_settled disk.old) held false }
-    ensures bytes { OnOk result (D.seen disk.new ≡ with_gate (D.seen disk.old) (other_of held) CLOSED) }
+    ensures bytes { OnOk result (D.seen disk.new ≡
+        with_gate (D.seen disk.old) (other_of held) CLOSED) }
     ensures ok { OnOk result (IsHeld (D.seen disk.new) (D.is_settled disk.new) held true) }
     ensures same { OnOk result (slot_in (D.seen disk.new) held ≡ slot_in (D.seen disk.old) held) }
     ensures images { Leaves (D.seen disk.new) (D.is_settled disk.new)
@@ -73,8 +74,10 @@ fn open_gate<D: Disk>(disk: &mut D, held: Place) -> Result<(), DiskFault>
     requires held { IsHeld (D.seen disk.old) (D.is_settled disk.old) held true }
     requires below { is_below (slot_in (D.seen disk.old) held).stored
         (slot_in (D.seen disk.old) (other_of held)).stored ≡ true }
-    ensures bytes { OnOk result (D.seen disk.new ≡ with_gate (D.seen disk.old) (other_of held) OPEN) }
-    ensures ok { OnOk result (IsHeld (D.seen disk.new) (D.is_settled disk.new) (other_of held) false) }
+    ensures bytes { OnOk result (D.seen disk.new ≡
+        with_gate (D.seen disk.old) (other_of held) OPEN) }
+    ensures ok { OnOk result (IsHeld (D.seen disk.new) (D.is_settled disk.new) (other_of held)
+        false) }
     ensures next { OnOk result
         (slot_in (D.seen disk.new) (other_of held) ≡ slot_in (D.seen disk.old) (other_of held)) }
     ensures images { Leaves (D.seen disk.new) (D.is_settled disk.new)
@@ -97,7 +100,8 @@ pub(crate) fn store<D: Disk>(
     requires held { IsHeld (D.seen disk.old) (D.is_settled disk.old) held is_closed }
     requires below { is_below (slot_in (D.seen disk.old) held).stored next.stored ≡ true }
     ensures bytes { OnOk result (D.seen disk.new ≡ file_after (D.seen disk.old) next) }
-    ensures ok { OnOk result (IsHeld (D.seen disk.new) (D.is_settled disk.new) (other_of held) false) }
+    ensures ok { OnOk result (IsHeld (D.seen disk.new) (D.is_settled disk.new) (other_of held)
+        false) }
     ensures next { OnOk result (slot_in (D.seen disk.new) (other_of held) ≡ next) }
     ensures images { Leaves (D.seen disk.new) (D.is_settled disk.new)
         (HasEither (slot_in (D.seen disk.old) held) next) }

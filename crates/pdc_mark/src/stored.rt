@@ -17,7 +17,8 @@ pub struct Stored {
 }
 
 impl Stored {
-    ghost use Rattle.pdc_mark.specs.Stored.{first_stored, is_below, with_counts, with_floor, with_instant, with_next_start, with_waiting};
+    ghost use Rattle.pdc_mark.specs.Stored.{first_stored, is_below, with_counts, with_floor};
+    ghost use Rattle.pdc_mark.specs.Stored.{with_instant, with_next_start, with_waiting};
 
     /// What a mark stores before the first life: nothing but zeros.
     pub(crate) fn first() -> Stored

@@ -1,9 +1,11 @@
 //! The mark file of version 1, which is read to be converted: two slots of 64 bytes, each a gate, 7 zero bytes, the
 //! fields of version 2 that stand before the counts, and 40 zero bytes.
-ghost use Rattle.std.specs.Prelude.{◌≡◌, ◌+◌, ◌≤◌, length, replicate, IfErr, IfOk, IsErrOf, IsOk, OnOk};
+ghost use Rattle.std.specs.Prelude.{◌≡◌, ◌+◌, ◌≤◌, length, replicate, IfErr, IfOk, IsErrOf, IsOk};
+ghost use Rattle.std.specs.Prelude.{OnOk};
 ghost use Rattle.pdc_disk.specs.Disk.{AllSettled, HasCause, StaySettled};
 ghost use Rattle.pdc_mark.specs.declared.layout.TheConstants.{COUNTS, MARK_LEN};
-ghost use Rattle.pdc_mark.specs.VersionOne.{converted_file, old_mark_of, open_old_slot, HasOldMark, IsOldRefusal};
+ghost use Rattle.pdc_mark.specs.VersionOne.{converted_file, old_mark_of, open_old_slot};
+ghost use Rattle.pdc_mark.specs.VersionOne.{HasOldMark, IsOldRefusal};
 
 use crate::fault::MarkFault;
 use crate::layout::{COUNTS, COUNTS_AT, FIELDS_AT, OPEN, SLOT_LEN};
@@ -95,7 +97,10 @@ impl OldMark {
 
     /// The start number and the floor.
     pub fn stored(&self) -> (u32, u64)
-        ensures { result ≡ ((slot_in_old self.now).stored.start, (slot_in_old self.now).stored.floor) }
+        ensures { result ≡ (
+          (slot_in_old self.now).stored.start,
+          (slot_in_old self.now).stored.floor,
+        ) }
     {
         (self.slot.stored.start, self.slot.stored.floor)
     }

@@ -1,5 +1,6 @@
 //! What the merger answers to what arrives, over its alignment and the layouts that it holds.
-ghost use Rattle.std.specs.Prelude.{◌≡◌, ℕ, ◌+◌, ◌∷◌, ◌<◌, ◌≤◌, List, Some, drop, length, map, option_map};
+ghost use Rattle.std.specs.Prelude.{◌≡◌, ℕ, ◌+◌, ◌∷◌, ◌<◌, ◌≤◌, List, Some, drop, length, map};
+ghost use Rattle.std.specs.Prelude.{option_map};
 ghost use Rattle.std.specs.List.{AllByRecursion};
 ghost use Rattle.pdc_align.specs.Align.{StandsFor, Unchanged};
 ghost use Rattle.pdc_block.specs.Block.{words_in};
@@ -13,7 +14,8 @@ ghost use Rattle.pdc_life.specs.Merger.{merged_answer};
 ghost use Rattle.pdc_life.specs.Run.{IsRun};
 ghost use Rattle.pdc_arrival.specs.Views.{arrival_view, section_part, stamp_view};
 ghost use Rattle.pdc_merge.specs.Cells.{blocks_len, cells_in, conflicts_in, data_refusal};
-ghost use Rattle.pdc_merge.specs.Held.{AreAllInPlace, AreInPlace, LayoutView, layout_at, layouts_of};
+ghost use Rattle.pdc_merge.specs.Held.{AreAllInPlace, AreInPlace, LayoutView, layout_at};
+ghost use Rattle.pdc_merge.specs.Held.{layouts_of};
 ghost use Rattle.pdc_merge.specs.Merger.{IsPlaced, IsReady};
 
 use crate::cells::{are_in_force, write_cells};
@@ -62,12 +64,16 @@ fn put_some<T: Table>(
     requires in_place { AreInPlace (length alignment.old.state.columns) layout.now.sections }
     requires size { length payload.now ≡ OWN_BLOCK_LEN + blocks_len layout.now.sections }
     ensures answer { (g : Given) (E : List Entry) → StandsFor g E alignment.old.state →
-        result ≡ outcome_in_time g E stream instant (cells_in alignment.old.state quality layout.now.sections (drop 7 (words_in payload.now))) }
-    ensures stands { (g : Given) (E : List Entry) (bytes : List ℕ) → StandsFor g E alignment.old.state →
+        result ≡ outcome_in_time g E stream instant
+        (cells_in alignment.old.state quality layout.now.sections (drop 7 (words_in payload.now))) }
+    ensures stands { (g : Given) (E : List Entry) (bytes : List ℕ) →
+        StandsFor g E alignment.old.state →
         IsRun g (Arrive stream bytes (Data instant quality payload.now)
-        (with_cells result (cells_in alignment.old.state quality layout.now.sections (drop 7 (words_in payload.now)))) ∷ E) →
+        (with_cells result (cells_in alignment.old.state quality layout.now.sections
+        (drop 7 (words_in payload.now)))) ∷ E) →
         StandsFor g (Arrive stream bytes (Data instant quality payload.now)
-        (with_cells result (cells_in alignment.old.state quality layout.now.sections (drop 7 (words_in payload.now)))) ∷ E) alignment.new.state }
+        (with_cells result (cells_in alignment.old.state quality layout.now.sections
+        (drop 7 (words_in payload.now)))) ∷ E) alignment.new.state }
     ensures unchanged { Unchanged alignment.old alignment.new }
 {
     words_are_cut();
@@ -92,12 +98,16 @@ fn put_data<T: Table>(
     requires in_place { AreInPlace (length alignment.old.state.columns) layout.now.sections }
     requires size { length payload.now ≡ OWN_BLOCK_LEN + blocks_len layout.now.sections }
     ensures answer { (g : Given) (E : List Entry) → StandsFor g E alignment.old.state →
-        result ≡ outcome_in_time g E stream instant (cells_in alignment.old.state quality layout.now.sections (drop 7 (words_in payload.now))) }
-    ensures stands { (g : Given) (E : List Entry) (bytes : List ℕ) → StandsFor g E alignment.old.state →
+        result ≡ outcome_in_time g E stream instant
+        (cells_in alignment.old.state quality layout.now.sections (drop 7 (words_in payload.now))) }
+    ensures stands { (g : Given) (E : List Entry) (bytes : List ℕ) →
+        StandsFor g E alignment.old.state →
         IsRun g (Arrive stream bytes (Data instant quality payload.now)
-        (with_cells result (cells_in alignment.old.state quality layout.now.sections (drop 7 (words_in payload.now)))) ∷ E) →
+        (with_cells result (cells_in alignment.old.state quality layout.now.sections
+        (drop 7 (words_in payload.now)))) ∷ E) →
         StandsFor g (Arrive stream bytes (Data instant quality payload.now)
-        (with_cells result (cells_in alignment.old.state quality layout.now.sections (drop 7 (words_in payload.now)))) ∷ E) alignment.new.state }
+        (with_cells result (cells_in alignment.old.state quality layout.now.sections
+        (drop 7 (words_in payload.now)))) ∷ E) alignment.new.state }
     ensures unchanged { Unchanged alignment.old alignment.new }
 {
     words_are_cut();
@@ -122,11 +132,15 @@ fn answer_under<T: Table>(
     requires lanes { alignment.old.state.content.lanes ≡ 2 }
     requires stream { stream < 2 }
     requires in_place { AreInPlace (length alignment.old.state.columns) layout.now.sections }
-    ensures answer { (g : Given) (E : List Entry) → StandsFor g E alignment.old.state → Some layout.now ≡ layout_at (layouts_of E) stream →
+    ensures answer { (g : Given) (E : List Entry) → StandsFor g E alignment.old.state →
+        Some layout.now ≡ layout_at (layouts_of E) stream →
         result ≡ (merged_answer g E stream (Data instant quality payload.now)).outcome }
-    ensures stands { (g : Given) (E : List Entry) (bytes : List ℕ) → StandsFor g E alignment.old.state → Some layout.now ≡ layout_at (layouts_of E) stream →
-        IsRun g (answered merged_answer g E (ToArrive stream bytes (Data instant quality payload.now)) ∷ E) →
-        StandsFor g (answered merged_answer g E (ToArrive stream bytes (Data instant quality payload.now)) ∷ E) alignment.new.state }
+    ensures stands { (g : Given) (E : List Entry) (bytes : List ℕ) →
+        StandsFor g E alignment.old.state → Some layout.now ≡ layout_at (layouts_of E) stream →
+        IsRun g (answered merged_answer g E (ToArrive stream bytes
+        (Data instant quality payload.now)) ∷ E) →
+        StandsFor g (answered merged_answer g E (ToArrive stream bytes
+        (Data instant quality payload.now)) ∷ E) alignment.new.state }
     ensures unchanged { Unchanged alignment.old alignment.new }
 {
     others_are_left();
@@ -139,7 +153,9 @@ fn answer_under<T: Table>(
 
 /// Whether some section has the count of the one that is held of its column, or in force, and other bytes.
 fn has_count_conflict<T: Table>(alignment: &Alignment<T>, sections: &[ColumnSection<'_>]) -> bool
-    requires { AllByRecursion (λ (part : ℕ × SectionFields). part.0 < length alignment.now.state.columns) (map section_part sections.now) }
+    requires { AllByRecursion (λ (part : ℕ
+        × SectionFields). part.0 < length alignment.now.state.columns)
+        (map section_part sections.now) }
     ensures { result ≡ conflicts_in alignment.now.state (map section_part sections.now) }
 {
     match sections.split_first() {
@@ -154,7 +170,8 @@ fn has_count_conflict<T: Table>(alignment: &Alignment<T>, sections: &[ColumnSect
 
 /// The stamp of the layout, if one is held.
 fn stamp_of(layout: Option<&HeldLayout>) -> Option<Stamp>
-    ensures { option_map stamp_view result ≡ option_map (λ (l : LayoutView). l.stamp) (option_map (λ l. l.now) layout.entry) }
+    ensures { option_map stamp_view result ≡
+        option_map (λ (l : LayoutView). l.stamp) (option_map (λ l. l.now) layout.entry) }
 {
     match layout {
         Some(layout) => Some(layout.stamp()),
@@ -170,14 +187,23 @@ fn answer_layout<T: Table>(
     stamp: Stamp,
     sections: &[ColumnSection<'_>],
 ) -> Outcome
-    requires { AllByRecursion (λ (part : ℕ × SectionFields). part.0 < length alignment.old.state.columns) (map section_part sections.now) }
+    requires { AllByRecursion (λ (part : ℕ
+        × SectionFields). part.0 < length alignment.old.state.columns)
+        (map section_part sections.now) }
     ensures answer { (g : Given) (E : List Entry) → StandsFor g E alignment.old.state →
-        option_map stamp_view held ≡ option_map (λ (l : LayoutView). l.stamp) (layout_at (layouts_of E) stream) → stream < 2 →
-        result ≡ (merged_answer g E stream (Layout (Some (stamp_view stamp)) (map section_part sections.now))).outcome }
-    ensures stands { (g : Given) (E : List Entry) (bytes : List ℕ) → StandsFor g E alignment.old.state →
-        option_map stamp_view held ≡ option_map (λ (l : LayoutView). l.stamp) (layout_at (layouts_of E) stream) → stream < 2 →
-        IsRun g (answered merged_answer g E (ToArrive stream bytes (Layout (Some (stamp_view stamp)) (map section_part sections.now))) ∷ E) →
-        StandsFor g (answered merged_answer g E (ToArrive stream bytes (Layout (Some (stamp_view stamp)) (map section_part sections.now))) ∷ E) alignment.new.state }
+        option_map stamp_view held ≡
+        option_map (λ (l : LayoutView). l.stamp) (layout_at (layouts_of E) stream) → stream < 2 →
+        result ≡ (merged_answer g E stream (Layout (Some (stamp_view stamp))
+        (map section_part sections.now))).outcome }
+    ensures stands { (g : Given) (E : List Entry) (bytes : List ℕ) →
+        StandsFor g E alignment.old.state →
+        option_map stamp_view held ≡
+        option_map (λ (l : LayoutView). l.stamp) (layout_at (layouts_of E) stream) → stream < 2 →
+        IsRun g (answered merged_answer g E (ToArrive stream bytes
+        (Layout (Some (stamp_view stamp)) (map section_part sections.now))) ∷ E) →
+        StandsFor g (answered merged_answer g E (ToArrive stream bytes
+        (Layout (Some (stamp_view stamp)) (map section_part sections.now))) ∷
+        E) alignment.new.state }
     ensures unchanged { Unchanged alignment.old alignment.new }
 {
     others_are_left();
@@ -199,15 +225,25 @@ fn answer_configuration<T: Table>(
     sections: &[ColumnSection<'_>],
 ) -> Outcome
     requires in_place { AreAllInPlace (length alignment.old.state.columns) layouts.old }
-    requires placed { IsPlaced (length alignment.old.state.columns) stream (Layout (option_map stamp_view stamp) (map section_part sections.now)) }
+    requires placed { IsPlaced (length alignment.old.state.columns) stream
+        (Layout (option_map stamp_view stamp) (map section_part sections.now)) }
     requires few { length sections.now ≤ MAX_PMUS }
-    ensures answer { (g : Given) (E : List Entry) → StandsFor g E alignment.old.state → layouts.old ≡ layouts_of E →
-        result ≡ (merged_answer g E stream (Layout (option_map stamp_view stamp) (map section_part sections.now))).outcome }
-    ensures stands { (g : Given) (E : List Entry) (bytes : List ℕ) → StandsFor g E alignment.old.state → layouts.old ≡ layouts_of E →
-        IsRun g (answered merged_answer g E (ToArrive stream bytes (Layout (option_map stamp_view stamp) (map section_part sections.now))) ∷ E) →
-        StandsFor g (answered merged_answer g E (ToArrive stream bytes (Layout (option_map stamp_view stamp) (map section_part sections.now))) ∷ E) alignment.new.state }
-    ensures held { (g : Given) (E : List Entry) (bytes : List ℕ) → StandsFor g E alignment.old.state → layouts.old ≡ layouts_of E →
-        layouts.new ≡ layouts_of (answered merged_answer g E (ToArrive stream bytes (Layout (option_map stamp_view stamp) (map section_part sections.now))) ∷ E) }
+    ensures answer { (g : Given) (E : List Entry) → StandsFor g E alignment.old.state →
+        layouts.old ≡ layouts_of E →
+        result ≡ (merged_answer g E stream (Layout (option_map stamp_view stamp)
+        (map section_part sections.now))).outcome }
+    ensures stands { (g : Given) (E : List Entry) (bytes : List ℕ) →
+        StandsFor g E alignment.old.state → layouts.old ≡ layouts_of E →
+        IsRun g (answered merged_answer g E (ToArrive stream bytes
+        (Layout (option_map stamp_view stamp) (map section_part sections.now))) ∷ E) →
+        StandsFor g (answered merged_answer g E (ToArrive stream bytes
+        (Layout (option_map stamp_view stamp) (map section_part sections.now))) ∷
+        E) alignment.new.state }
+    ensures held { (g : Given) (E : List Entry) (bytes : List ℕ) →
+        StandsFor g E alignment.old.state → layouts.old ≡ layouts_of E →
+        layouts.new ≡ layouts_of (answered merged_answer g E
+        (ToArrive stream bytes (Layout (option_map stamp_view stamp)
+        (map section_part sections.now))) ∷ E) }
     ensures in_place { AreAllInPlace (length alignment.old.state.columns) layouts.new }
     ensures unchanged { Unchanged alignment.old alignment.new }
 {
@@ -234,11 +270,15 @@ pub fn answer_data<T: Table>(
 ) -> Outcome
     requires ready { IsReady alignment.old.state layouts.now }
     requires stream { stream < 2 }
-    ensures answer { (g : Given) (E : List Entry) → StandsFor g E alignment.old.state → layouts.now ≡ layouts_of E →
+    ensures answer { (g : Given) (E : List Entry) → StandsFor g E alignment.old.state →
+        layouts.now ≡ layouts_of E →
         result ≡ (merged_answer g E stream (Data instant quality payload.now)).outcome }
-    ensures stands { (g : Given) (E : List Entry) (bytes : List ℕ) → StandsFor g E alignment.old.state → layouts.now ≡ layouts_of E →
-        IsRun g (answered merged_answer g E (ToArrive stream bytes (Data instant quality payload.now)) ∷ E) →
-        StandsFor g (answered merged_answer g E (ToArrive stream bytes (Data instant quality payload.now)) ∷ E) alignment.new.state }
+    ensures stands { (g : Given) (E : List Entry) (bytes : List ℕ) →
+        StandsFor g E alignment.old.state → layouts.now ≡ layouts_of E →
+        IsRun g (answered merged_answer g E (ToArrive stream bytes
+        (Data instant quality payload.now)) ∷ E) →
+        StandsFor g (answered merged_answer g E (ToArrive stream bytes
+        (Data instant quality payload.now)) ∷ E) alignment.new.state }
     ensures unchanged { Unchanged alignment.old alignment.new }
 {
     others_are_left();
@@ -256,14 +296,21 @@ pub fn answer<T: Table>(
     arrival: &Arrival<'_>,
 ) -> Outcome
     requires ready { IsReady alignment.old.state layouts.old }
-    requires placed { IsPlaced (length alignment.old.state.columns) stream (arrival_view arrival.now) }
-    ensures answer { (g : Given) (E : List Entry) → StandsFor g E alignment.old.state → layouts.old ≡ layouts_of E →
+    requires placed { IsPlaced (length alignment.old.state.columns) stream
+        (arrival_view arrival.now) }
+    ensures answer { (g : Given) (E : List Entry) → StandsFor g E alignment.old.state →
+        layouts.old ≡ layouts_of E →
         result ≡ (merged_answer g E stream (arrival_view arrival.now)).outcome }
-    ensures stands { (g : Given) (E : List Entry) (bytes : List ℕ) → StandsFor g E alignment.old.state → layouts.old ≡ layouts_of E →
-        IsRun g (answered merged_answer g E (ToArrive stream bytes (arrival_view arrival.now)) ∷ E) →
-        StandsFor g (answered merged_answer g E (ToArrive stream bytes (arrival_view arrival.now)) ∷ E) alignment.new.state }
-    ensures held { (g : Given) (E : List Entry) (bytes : List ℕ) → StandsFor g E alignment.old.state → layouts.old ≡ layouts_of E →
-        layouts.new ≡ layouts_of (answered merged_answer g E (ToArrive stream bytes (arrival_view arrival.now)) ∷ E) }
+    ensures stands { (g : Given) (E : List Entry) (bytes : List ℕ) →
+        StandsFor g E alignment.old.state → layouts.old ≡ layouts_of E →
+        IsRun g (answered merged_answer g E (ToArrive stream bytes (arrival_view arrival.now)) ∷
+        E) →
+        StandsFor g (answered merged_answer g E (ToArrive stream bytes (arrival_view arrival.now)) ∷
+        E) alignment.new.state }
+    ensures held { (g : Given) (E : List Entry) (bytes : List ℕ) →
+        StandsFor g E alignment.old.state → layouts.old ≡ layouts_of E →
+        layouts.new ≡ layouts_of (answered merged_answer g E
+        (ToArrive stream bytes (arrival_view arrival.now)) ∷ E) }
     ensures in_place { AreAllInPlace (length alignment.old.state.columns) layouts.new }
     ensures unchanged { Unchanged alignment.old alignment.new }
 {

@@ -17,7 +17,8 @@ use pdc_table::Table;
 
 /// Whether the section in force has this count.
 fn has_count(in_force: Option<u16>, count: u16) -> bool
-    ensures { (section : Option SectionFields) → in_force ≡ count_in section → result ≡ has_count section count }
+    ensures { (section : Option SectionFields) → in_force ≡ count_in section →
+        result ≡ has_count section count }
 {
     match in_force {
         Some(in_force) => count == in_force,
@@ -27,7 +28,8 @@ fn has_count(in_force: Option<u16>, count: u16) -> bool
 
 /// Whether the count of each section is in force.
 pub fn are_in_force<T: Table>(alignment: &Alignment<T>, sections: &[HeldSection]) -> bool
-    requires { AllByRecursion (λ (s : HeldSectionData). s.column < length alignment.now.state.columns) sections.now }
+    requires { AllByRecursion (λ (s : HeldSectionData). s.column < length
+        alignment.now.state.columns) sections.now }
     ensures { result ≡ are_in_force alignment.now.state sections.now }
 {
     match sections.split_first() {
@@ -52,7 +54,9 @@ fn write_cell<'a, T: Table>(
     requires exists { section.now.column < length alignment.now.state.columns }
     requires size { length block.now ≡ 2 * word_count_of section.now.shape }
     ensures cells { (quality : ℕ) → body_cells_of (take result cells.new) quality
-        ≡ body_cells_of (take count cells.old) quality ++ cell_in (column_in alignment.now.state section.now.column).in_force quality section.now (words_in block.now) }
+        ≡ body_cells_of (take count cells.old) quality ++
+        cell_in (column_in alignment.now.state section.now.column).in_force quality section.now
+        (words_in block.now) }
     ensures len { length cells.new ≡ length cells.old }
     ensures grown { result ≤ count + 1 }
 {
@@ -77,10 +81,12 @@ pub fn write_cells<'a, T: Table>(
     count: usize,
 ) -> usize
     requires room { count + length sections.now ≤ length cells.old }
-    requires exist { AllByRecursion (λ (s : HeldSectionData). s.column < length alignment.now.state.columns) sections.now }
+    requires exist { AllByRecursion (λ (s : HeldSectionData). s.column < length
+        alignment.now.state.columns) sections.now }
     requires size { length blocks.now ≡ blocks_len sections.now }
     ensures cells { (quality : ℕ) → body_cells_of (take result cells.new) quality
-        ≡ body_cells_of (take count cells.old) quality ++ cells_in alignment.now.state quality sections.now (words_in blocks.now) }
+        ≡ body_cells_of (take count cells.old) quality ++
+        cells_in alignment.now.state quality sections.now (words_in blocks.now) }
     ensures len { length cells.new ≡ length cells.old }
     ensures grown { result ≤ length cells.old }
 {

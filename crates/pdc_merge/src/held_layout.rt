@@ -66,7 +66,11 @@ impl HeldLayout {
     /// What is kept of a layout with this stamp and these sections.
     pub(crate) fn new(stamp: Stamp, sections: &[ColumnSection<'_>]) -> HeldLayout
         requires { length sections.now ≤ MAX_PMUS }
-        ensures { result ≡ record { stamp = stamp_view stamp; sections = map held_section_of (map section_part sections.now) } }
+        ensures { result ≡ record {
+          stamp = stamp_view stamp;
+          sections = map held_section_of
+              (map section_part sections.now);
+        } }
     {
         let sections = held_sections(sections);
         HeldLayout {
@@ -129,7 +133,8 @@ fn len_of(sections: &[HeldSection]) -> usize
 /// What is kept of these sections.
 fn held_sections(sections: &[ColumnSection<'_>]) -> ArrayVec<HeldSection, MAX_PMUS>
     requires { length sections.now ≤ MAX_PMUS }
-    ensures { result.items ≡ map (λ (s : ColumnSectionData). held_section_of (section_part s)) sections.now }
+    ensures { result.items ≡ map (λ (s : ColumnSectionData). held_section_of (section_part s))
+        sections.now }
 {
     let mut held = ArrayVec::new();
     for section in sections {

@@ -59,7 +59,8 @@ impl<T: Table> Model for Merger<T> {
 /// How the instants of the merger are aligned: each node has a stream, which brings cells for all columns.
 fn plan_of(settings: &MergerSettings) -> Plan
     ensures given { (start floor : ℕ) (counts : List ℕ) (opening : ℕ) →
-        given_by result settings.now.output start floor counts opening ≡ given_of (OfMerger settings.now) start floor counts opening }
+        given_by result settings.now.output start floor counts opening ≡
+        given_of (OfMerger settings.now) start floor counts opening }
     ensures columns { result.columns ≡ length settings.now.sources.items }
     ensures lanes { result.lanes ≡ 2 }
 {
@@ -88,7 +89,8 @@ impl<T: Table> Merger<T> {
         counts: &[u16; MAX_PMUS],
         now: u64,
     ) -> Result<Merger<T>, AllocError>
-        ensures stands { IfOk result (λ m. StandsFor (given_of (OfMerger settings) start floor counts.now now) [] m) }
+        ensures stands { IfOk result (λ m. StandsFor
+            (given_of (OfMerger settings) start floor counts.now now) [] m) }
         ensures settings { IfOk result (λ m. m.settings ≡ settings) }
         ensures popped { IfOk result (λ m. m.popped ≡ floor) }
         ensures disagreements { IfOk result (λ m. m.disagreements ≡ 0) }
@@ -109,8 +111,11 @@ impl<T: Table> Merger<T> {
         requires { stream < 2 }
         ensures answer { (g : Given) (E : List Entry) → StandsFor g E self.old →
             result ≡ (merged_answer g E stream (Data instant quality payload.now)).outcome }
-        ensures stands { (g : Given) (E : List Entry) (bytes : List ℕ) → Says (OfMerger self.old.settings) stream bytes (Data instant quality payload.now) →
-            StandsFor g E self.old → StandsFor g (answered merged_answer g E (ToArrive stream bytes (Data instant quality payload.now)) ∷ E) self.new }
+        ensures stands { (g : Given) (E : List Entry) (bytes : List ℕ) →
+            Says (OfMerger self.old.settings) stream bytes (Data instant quality payload.now) →
+            StandsFor g E self.old →
+            StandsFor g (answered merged_answer g E
+            (ToArrive stream bytes (Data instant quality payload.now)) ∷ E) self.new }
         ensures counts { self.new.counts ≡ after_answer result self.old.counts }
         ensures popped { self.new.popped ≡ self.old.popped }
         ensures settings { self.new.settings ≡ self.old.settings }

@@ -28,7 +28,8 @@ pub fn copy_of_merger(settings: &MergerSettings) -> MergerSettings
 }
 
 impl<T: Table> Opens for Merger<T> {
-    ghost given_with = { λ settings start floor counts. given_of (OfMerger settings) start floor counts 0 };
+    ghost given_with = { λ settings start floor counts. given_of (OfMerger settings) start floor
+        counts 0 };
 
     ghost output_of = { λ settings. settings.output };
 

@@ -30,7 +30,7 @@ pub struct Site<'a, R: Wait + Clock + OwnFiles> {
 
 /// What a request asks for.
 #[derive(Clone, Copy, Debug, PartialEq, Eq)]
-enum Asked {
+enum Resource {
     Metrics,
     Unknown,
     WrongMethod,
@@ -39,20 +39,20 @@ enum Asked {
 }
 
 /// What this method and this path ask for.
-fn route_of(method: &str, path: &str) -> Asked {
+fn route_of(method: &str, path: &str) -> Resource {
     if path != "/metrics" {
-        Asked::Unknown
+        Resource::Unknown
     } else if method == "GET" || method == "HEAD" {
-        Asked::Metrics
+        Resource::Metrics
     } else {
-        Asked::WrongMethod
+        Resource::WrongMethod
     }
 }
 
 /// What a request asks for. Where the loopback is served, it names the loopback.
-fn asked_by(request: &Request<Bytes>, own_port: Option<u16>) -> Asked {
+fn asked_by(request: &Request<Bytes>, own_port: Option<u16>) -> Resource {
     match own_port {
-        Some(port) if !is_own_request(request, port) => Asked::WrongHost,
+        Some(port) if !is_own_request(request, port) => Resource::WrongHost,
         _ => route_of(request.method().as_str(), request.uri().path()),
     }
 }
@@ -74,12 +74,12 @@ impl<R: Wait + Clock + OwnFiles> Service for Site<'_, R> {
     ) -> Result<(), AllocError> {
         response.add_header(header::CONNECTION, HeaderValue::from_static("close"))?;
         match asked_by(request, self.own_port) {
-            Asked::Metrics => {
+            Resource::Metrics => {
                 let text = metrics_text(self.rt, self.alloc, &self.metered, self.begun)?;
                 let body = Bytes::from_vec(text.into_bytes())?;
                 fill(response, HeaderValue::from_static(METRICS), body)
             }
-            Asked::Unknown => {
+            Resource::Unknown => {
                 response.status = StatusCode::NOT_FOUND;
                 fill(
                     response,
@@ -87,7 +87,7 @@ impl<R: Wait + Clock + OwnFiles> Service for Site<'_, R> {
                     Bytes::from_static(b"not found: the counters are at /metrics\n"),
                 )
             }
-            Asked::WrongHost => {
+            Resource::WrongHost => {
                 response.status = StatusCode::MISDIRECTED_REQUEST;
                 fill(
                     response,
@@ -97,7 +97,7 @@ impl<R: Wait + Clock + OwnFiles> Service for Site<'_, R> {
                     ),
                 )
             }
-            Asked::WrongMethod => {
+            Resource::WrongMethod => {
                 response.status = StatusCode::METHOD_NOT_ALLOWED;
                 response.add_header(header::ALLOW, HeaderValue::from_static("GET, HEAD"))
             }

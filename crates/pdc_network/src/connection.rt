@@ -1,5 +1,6 @@
 //! Frames over a TCP connection.
-ghost use Rattle.std.specs.Prelude.{◌≡◌, ◌≤◌, ◌<◌, ◌++◌, ◌∷◌, ℕ, IfOk, IfSome, List, None, OnErr, [], length, map};
+ghost use Rattle.std.specs.Prelude.{◌≡◌, ◌≤◌, ◌<◌, ◌++◌, ◌∷◌, ℕ, IfOk, IfSome, List, None, OnErr};
+ghost use Rattle.std.specs.Prelude.{[], length, map};
 ghost use Rattle.pdc_frame.specs.declared.limits.TheConstants.{MAX_SIZE};
 ghost use Rattle.pdc_ports.specs.Heard.{Gave, Heard, heard_by};
 ghost use Rattle.pdc_session.specs.pdc_memory.Asking.{SomeWasRefused};
@@ -132,9 +133,11 @@ impl<
         dialer: D,
     ) -> Result<Connection<'a, R, D>, AllocError>
         // By a dialer of which nothing was asked yet it said nothing.
-        ensures fresh { D.dialed dialer [] → IfOk result (λ connection. IsFreshConnection D.dialed connection) }
+        ensures fresh { D.dialed dialer [] →
+            IfOk result (λ connection. IsFreshConnection D.dialed connection) }
         ensures silent { D.dialed dialer []
-            → IfOk result (λ connection. IsHeardOver D.dialed D.Stream.remaining D.Stream.contents connection []) }
+            → IfOk result (λ connection. IsHeardOver D.dialed D.Stream.remaining D.Stream.contents
+            connection []) }
         ensures refused { OnErr result SomeWasRefused }
     {
         Ok(Connection {
@@ -158,7 +161,8 @@ impl<
     /// Lets its stream go, where it has one.
     fn part(&mut self)
         requires { CanEnd self.old }
-        ensures tells { (heard : List Heard) → IsHeardOver D.dialed D.Stream.remaining D.Stream.contents self.old heard
+        ensures tells { (heard : List Heard) →
+            IsHeardOver D.dialed D.Stream.remaining D.Stream.contents self.old heard
             → IsHeardOver D.dialed D.Stream.remaining D.Stream.contents self.new heard }
     {
         if let Some(stream) = self.stream.take() {
@@ -169,7 +173,8 @@ impl<
     /// It is no more, for this reason, and made anew later.
     fn lose(&mut self, loss: Loss)
         requires { CanEnd self.old }
-        ensures tells { (heard : List Heard) → IsHeardOver D.dialed D.Stream.remaining D.Stream.contents self.old heard
+        ensures tells { (heard : List Heard) →
+            IsHeardOver D.dialed D.Stream.remaining D.Stream.contents self.old heard
             → IsHeardOver D.dialed D.Stream.remaining D.Stream.contents self.new heard }
     {
         self.part();
@@ -186,7 +191,8 @@ impl<
     /// Makes it, and asks for the stream.
     fn open(&mut self) -> Result<(), Loss>
         requires { self.old.stream ≡ None }
-        ensures tells { (heard : List Heard) → IsHeardOver D.dialed D.Stream.remaining D.Stream.contents self.old heard
+        ensures tells { (heard : List Heard) →
+            IsHeardOver D.dialed D.Stream.remaining D.Stream.contents self.old heard
             → IsHeardOver D.dialed D.Stream.remaining D.Stream.contents self.new heard }
         ensures err { OnErr result (self.new.stream ≡ None) }
     {
@@ -222,7 +228,8 @@ impl<
     /// Makes it where its time has come, and else waits a little.
     fn open_when_due(&mut self)
         requires { self.old.stream ≡ None }
-        ensures tells { (heard : List Heard) → IsHeardOver D.dialed D.Stream.remaining D.Stream.contents self.old heard
+        ensures tells { (heard : List Heard) →
+            IsHeardOver D.dialed D.Stream.remaining D.Stream.contents self.old heard
             → IsHeardOver D.dialed D.Stream.remaining D.Stream.contents self.new heard }
     {
         if self.wait > 0 && !self.since.is_past(self.wait, Moment::now(self.rt)) {
@@ -239,8 +246,10 @@ impl<
         requires { MAX_SIZE ≤ length buffer.old }
         ensures kept { length buffer.new ≡ length buffer.old }
         ensures fits { IfOk result (λ came. fits_in came (length buffer.new)) }
-        ensures tells { (heard : List Heard) → IsHeardOver D.dialed D.Stream.remaining D.Stream.contents self.old heard
-            → IsHeardOver D.dialed D.Stream.remaining D.Stream.contents self.new (heard ++ map Gave (frames_in result buffer.new)) }
+        ensures tells { (heard : List Heard) →
+            IsHeardOver D.dialed D.Stream.remaining D.Stream.contents self.old heard
+            → IsHeardOver D.dialed D.Stream.remaining D.Stream.contents self.new (heard ++
+            map Gave (frames_in result buffer.new)) }
         ensures done { frames_in result buffer.new ≡ [] → CanEnd self.new }
     {
         match &mut self.stream {
@@ -254,8 +263,10 @@ impl<
         requires { MAX_SIZE ≤ length buffer.old }
         ensures kept { length buffer.new ≡ length buffer.old }
         ensures datagram { IfOk result (λ len. IfSome len (λ n. n ≤ length buffer.new)) }
-        ensures tells { (heard : List Heard) → IsHeardOver D.dialed D.Stream.remaining D.Stream.contents self.old heard
-            → IsHeardOver D.dialed D.Stream.remaining D.Stream.contents self.new (heard ++ map Gave (frame_in result buffer.new)) }
+        ensures tells { (heard : List Heard) →
+            IsHeardOver D.dialed D.Stream.remaining D.Stream.contents self.old heard
+            → IsHeardOver D.dialed D.Stream.remaining D.Stream.contents self.new (heard ++
+            map Gave (frame_in result buffer.new)) }
         ensures done { OnErr result (CanEnd self.new) }
     {
         match self.take_next(buffer)? {
@@ -283,8 +294,10 @@ impl<
     pub fn next(&mut self, buffer: &mut [u8]) -> Next
         ensures kept { length buffer.new ≡ length buffer.old }
         ensures datagram { (n : ℕ) → result ≡ Next.Datagram n → n ≤ length buffer.new }
-        ensures tells { (heard : List Heard) → IsHeardOver D.dialed D.Stream.remaining D.Stream.contents self.old heard
-            → IsHeardOver D.dialed D.Stream.remaining D.Stream.contents self.new (heard ++ heard_by result buffer.new ∷ []) }
+        ensures tells { (heard : List Heard) →
+            IsHeardOver D.dialed D.Stream.remaining D.Stream.contents self.old heard
+            → IsHeardOver D.dialed D.Stream.remaining D.Stream.contents self.new (heard ++
+            heard_by result buffer.new ∷ []) }
     {
         if self.stream.is_none() {
             self.open_when_due();
@@ -312,7 +325,8 @@ impl<
 
     /// Tells the sender a command, where there is a connection.
     fn tell(&mut self, command: Command)
-        ensures tells { (heard : List Heard) → IsHeardOver D.dialed D.Stream.remaining D.Stream.contents self.old heard
+        ensures tells { (heard : List Heard) →
+            IsHeardOver D.dialed D.Stream.remaining D.Stream.contents self.old heard
             → IsHeardOver D.dialed D.Stream.remaining D.Stream.contents self.new heard }
     {
         if let Some(stream) = &mut self.stream {
@@ -322,7 +336,8 @@ impl<
 
     /// Asks for the configuration.
     fn ask_again(&mut self)
-        ensures tells { (heard : List Heard) → IsHeardOver D.dialed D.Stream.remaining D.Stream.contents self.old heard
+        ensures tells { (heard : List Heard) →
+            IsHeardOver D.dialed D.Stream.remaining D.Stream.contents self.old heard
             → IsHeardOver D.dialed D.Stream.remaining D.Stream.contents self.new heard }
     {
         self.inquiry.note(Moment::now(self.rt));
@@ -331,7 +346,8 @@ impl<
 
     /// Takes how its last frame was answered. Where it was refused for want of the configuration of its data, that is asked for again.
     pub fn answered(&mut self, outcome: Option<Outcome>)
-        ensures tells { (heard : List Heard) → IsHeardOver D.dialed D.Stream.remaining D.Stream.contents self.old heard
+        ensures tells { (heard : List Heard) →
+            IsHeardOver D.dialed D.Stream.remaining D.Stream.contents self.old heard
             → IsHeardOver D.dialed D.Stream.remaining D.Stream.contents self.new heard }
     {
         if let Some(outcome) = outcome {
@@ -343,7 +359,8 @@ impl<
 
     /// Tells the sender, where there is a connection, to send no more.
     pub fn end(&mut self)
-        ensures tells { (heard : List Heard) → IsHeardOver D.dialed D.Stream.remaining D.Stream.contents self.old heard
+        ensures tells { (heard : List Heard) →
+            IsHeardOver D.dialed D.Stream.remaining D.Stream.contents self.old heard
             → IsHeardOver D.dialed D.Stream.remaining D.Stream.contents self.new heard }
     {
         self.tell(Command::DataOff);

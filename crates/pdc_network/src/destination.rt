@@ -59,7 +59,10 @@ impl<S: SendTo + Drop> Destination<S> {
     ///
     /// The number of the system's reason for which they did not go out whole, and 0 where it gave none.
     pub fn send(&mut self, bytes: &[u8]) -> Result<(), i32>
-        ensures tells { (before : Destination S) (hands : List Hand) → WasHanded S.sent before self.old hands → WasHanded S.sent before self.new (hands ++ record { frame = bytes.now; outcome = result } ∷ []) }
+        ensures tells { (before : Destination S) (hands : List Hand) →
+            WasHanded S.sent before self.old hands →
+            WasHanded S.sent before self.new (hands ++
+            record { frame = bytes.now; outcome = result } ∷ []) }
     {
         match self.socket.send_datagram(bytes, self.to) {
             Ok(len) if len == bytes.len() => Ok(()),

@@ -1,6 +1,8 @@
 //! When a sender is asked for its configuration again.
 ghost use Rattle.std.specs.Prelude.{◌≡◌};
-ghost use Rattle.pdc_network.specs.Inquiry.{asked_at, fresh, is_called_for, is_called_for_by, is_misfit_due, with_answer, with_datagram, with_misfit};
+ghost use Rattle.pdc_network.specs.Inquiry.{asked_at, fresh, is_called_for, is_called_for_by};
+ghost use Rattle.pdc_network.specs.Inquiry.{is_misfit_due, with_answer, with_datagram};
+ghost use Rattle.pdc_network.specs.Inquiry.{with_misfit};
 
 use pdc_journal::{Moment, change_in};
 use pdc_ports::{Outcome, Refusal};

@@ -40,7 +40,8 @@ impl<
     S: Receive + Drop,
     D: Dial + Drop,
 > Link<'a, R, S, D> {
-    ghost use Rattle.pdc_network.specs.Linked.{IsFreshConnection, IsFreshLink, IsFreshPort, IsHeardAt, IsHeardOver, limit_of};
+    ghost use Rattle.pdc_network.specs.Linked.{IsFreshConnection, IsFreshLink, IsFreshPort};
+    ghost use Rattle.pdc_network.specs.Linked.{IsHeardAt, IsHeardOver, limit_of};
 
     /// They come to this port.
     pub fn at(port: Port<'a, R, S>) -> Link<'a, R, S, D>
@@ -58,8 +59,10 @@ impl<
 
     /// They come over this connection.
     pub fn over(connection: Connection<'a, R, D>) -> Link<'a, R, S, D>
-        ensures fresh { IsFreshConnection D.dialed connection.entry → IsFreshLink S.received D.dialed result }
-        ensures tells { (heard : List Heard) → IsHeardOver D.dialed D.Stream.remaining D.Stream.contents connection.entry heard
+        ensures fresh { IsFreshConnection D.dialed connection.entry →
+            IsFreshLink S.received D.dialed result }
+        ensures tells { (heard : List Heard) →
+            IsHeardOver D.dialed D.Stream.remaining D.Stream.contents connection.entry heard
             → ⟦<Link<'a, R, S, D> as Source>⟧.told result heard }
     {
         Link {
@@ -73,9 +76,11 @@ impl<
     /// Leaves out what this limit leaves out, if there is one.
     pub fn set_limit(&mut self, limit: Option<CountLimit<'a, R>>)
         ensures limit { limit_of self.new ≡ most_of limit.entry }
-        ensures fresh { IsFreshLink S.received D.dialed self.old → IsFreshLink S.received D.dialed self.new }
+        ensures fresh { IsFreshLink S.received D.dialed self.old →
+            IsFreshLink S.received D.dialed self.new }
         // Where nothing came by its way yet it said nothing, whatever the limit is.
-        ensures silent { IsFreshLink S.received D.dialed self.old → ⟦<Link<'a, R, S, D> as Source>⟧.told self.new [] }
+        ensures silent { IsFreshLink S.received D.dialed self.old →
+            ⟦<Link<'a, R, S, D> as Source>⟧.told self.new [] }
     {
         self.limit = limit;
     }
@@ -135,7 +140,8 @@ impl<
     ghost use Rattle.pdc_network.specs.Passing.{HasPassed};
     ghost use Rattle.pdc_network.specs.declared.link.TheConstants.{MOST_IN_A_ROW};
 
-    ghost told = { λ s heard. HasPassed (IsHeardBy S.received D.dialed D.Stream.remaining D.Stream.contents s.way) (most_of s.limit) heard };
+    ghost told = { λ s heard. HasPassed (IsHeardBy S.received D.dialed D.Stream.remaining
+        D.Stream.contents s.way) (most_of s.limit) heard };
 
     ghost failures_of = { λ s. s.failures };
 

@@ -23,9 +23,13 @@ pub trait Outputs: Sink {
     ///
     /// The number of the system's reason, and 0 where it gave none.
     fn send_further(&mut self, number: usize, bytes: &[u8]) -> Result<(), i32>
-        ensures tells { (before : Self) (hands : List Hand) → handed before self.old number hands → handed before self.new number (hands ++ record { frame = bytes.now; outcome = result } ∷ []) }
-        ensures others { (other : ℕ) → other ≢ number → (before : Self) (hands : List Hand) → handed before self.old other hands → handed before self.new other hands }
-        ensures kept { (before : Self) (given : List (List ℕ)) → Self.took before self.old given → Self.took before self.new given }
+        ensures tells { (before : Self) (hands : List Hand) → handed before self.old number hands →
+            handed before self.new number (hands ++ record { frame = bytes.now; outcome = result } ∷
+            []) }
+        ensures others { (other : ℕ) → other ≢ number → (before : Self) (hands : List Hand) →
+            handed before self.old other hands → handed before self.new other hands }
+        ensures kept { (before : Self) (given : List (List ℕ)) → Self.took before self.old given →
+            Self.took before self.new given }
         ensures same { Self.failures_of self.new ≡ Self.failures_of self.old };
 }
 
@@ -50,9 +54,11 @@ impl<S: SendTo + Drop> UdpOutputs<S> {
 impl<S: SendTo + Drop> Sink for UdpOutputs<S> {
     ghost use Rattle.pdc_network.specs.Handed.{HasTaken, took_nothing};
 
-    ghost took = { λ before now frames. HasTaken S.sent before.loopback.destination now.loopback.destination before.loopback.failures now.loopback.failures frames };
+    ghost took = { λ before now frames. HasTaken S.sent before.loopback.destination
+        now.loopback.destination before.loopback.failures now.loopback.failures frames };
 
-    ghost nothing = { λ s. took_nothing S.sent S.sent_nothing s.loopback.destination s.loopback.failures };
+    ghost nothing = { λ s. took_nothing S.sent S.sent_nothing s.loopback.destination
+        s.loopback.failures };
 
     ghost failures_of = { λ s. s.loopback.failures };
 
@@ -70,9 +76,12 @@ impl<S: SendTo + Drop> Outputs for UdpOutputs<S> {
     ghost use Rattle.std.specs.Prelude.{slice_get};
     ghost use Rattle.pdc_network.specs.Handed.{WasHandedAt, handed_nothing_at};
 
-    ghost handed = { λ before now number hands. WasHandedAt S.sent (slice_get before.destinations.items number) (slice_get now.destinations.items number) hands };
+    ghost handed = { λ before now number hands. WasHandedAt S.sent
+        (slice_get before.destinations.items number) (slice_get now.destinations.items number)
+        hands };
 
-    ghost handed_none = { λ s number. handed_nothing_at S.sent S.sent_nothing (slice_get s.destinations.items number) };
+    ghost handed_none = { λ s number. handed_nothing_at S.sent S.sent_nothing
+        (slice_get s.destinations.items number) };
 
     fn send_further(&mut self, number: usize, bytes: &[u8]) -> Result<(), i32> {
         match self.destinations.get_mut(number) {

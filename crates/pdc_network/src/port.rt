@@ -40,7 +40,8 @@ impl<'a, R: Clock, S: Receive + Drop> Port<'a, R, S> {
         commands: Option<SocketAddr>,
     ) -> Port<'a, R, S>
         ensures fresh { S.received (socket_of source) [] → IsFreshPort S.received result }
-        ensures tells { (heard : List Heard) → ⟦<UdpSource<S> as Source>⟧.told source heard → IsHeardAt S.received result heard }
+        ensures tells { (heard : List Heard) → ⟦<UdpSource<S> as Source>⟧.told source heard →
+            IsHeardAt S.received result heard }
     {
         Port {
             rt,
@@ -76,7 +77,8 @@ impl<'a, R: Clock, S: Receive + Drop> Port<'a, R, S> {
     pub fn next(&mut self, buffer: &mut [u8]) -> Next
         ensures kept { length buffer.new ≡ length buffer.old }
         ensures datagram { (n : ℕ) → result ≡ Next.Datagram n → n ≤ length buffer.new }
-        ensures tells { (heard : List Heard) → IsHeardAt S.received self.old heard → IsHeardAt S.received self.new (heard ++ heard_by result buffer.new ∷ []) }
+        ensures tells { (heard : List Heard) → IsHeardAt S.received self.old heard →
+            IsHeardAt S.received self.new (heard ++ heard_by result buffer.new ∷ []) }
     {
         let next = self.source.next(buffer);
         if let Some(to) = self.commands {
@@ -101,7 +103,8 @@ impl<'a, R: Clock, S: Receive + Drop> Port<'a, R, S> {
 
     /// Takes how its last datagram was answered.
     pub fn answered(&mut self, outcome: Option<Outcome>)
-        ensures tells { (heard : List Heard) → IsHeardAt S.received self.old heard → IsHeardAt S.received self.new heard }
+        ensures tells { (heard : List Heard) → IsHeardAt S.received self.old heard →
+            IsHeardAt S.received self.new heard }
     {
         let Some(to) = self.commands else {
             return;

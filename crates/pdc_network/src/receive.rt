@@ -20,7 +20,8 @@ pub trait Receive {
     fn receive_datagram(&mut self, buffer: &mut [u8]) -> io::Result<(usize, SocketAddr)>
         ensures kept { length buffer.new ≡ length buffer.old }
         ensures inside { IfOk result (λ came. came.0 ≤ length buffer.new) }
-        ensures tells { (calls : List Received) → received self.old calls → received self.new (calls ++ received_by result buffer.new ∷ []) };
+        ensures tells { (calls : List Received) → received self.old calls →
+            received self.new (calls ++ received_by result buffer.new ∷ []) };
 
     /// Sends the bytes from the port as one datagram, and answers whether they went out whole.
     fn reply(&self, bytes: &[u8], to: SocketAddr) -> bool;

@@ -19,5 +19,7 @@ pub trait SendTo {
     ///
     /// The system's reason for which it took none.
     fn send_datagram(&mut self, bytes: &[u8], to: SocketAddr) -> io::Result<usize>
-        ensures tells { (before : Self) (calls : List Sent) → sent before self.old calls → sent before self.new (calls ++ record { to = to; bytes = bytes.now; answer = result } ∷ []) };
+        ensures tells { (before : Self) (calls : List Sent) → sent before self.old calls →
+            sent before self.new (calls ++ record { to = to; bytes = bytes.now; answer = result } ∷
+            []) };
 }

@@ -2,7 +2,8 @@
 ghost use Rattle.std.specs.Prelude.{◌≡◌, ◌≤◌, ℕ, List, [], ◌++◌, IfOk, Ok, OnErr, false, length};
 ghost use Rattle.pdc_frame.specs.declared.limits.TheConstants.{MAX_SIZE};
 ghost use Rattle.pdc_session.specs.Counting.{inner_of};
-ghost use Rattle.pdc_network.specs.Streamed.{BringsBytes, BringsNothing, HasRun, IsDone, TakesFront, WasLetGo};
+ghost use Rattle.pdc_network.specs.Streamed.{BringsBytes, BringsNothing, HasRun, IsDone};
+ghost use Rattle.pdc_network.specs.Streamed.{TakesFront, WasLetGo};
 ghost use Rattle.pdc_network.specs.Came.{fits_in, frames_in};
 
 use crate::loss::Loss;
@@ -27,7 +28,8 @@ pub(crate) fn order<S: Read + Write>(
     command: Command,
     stream: &mut Counting<S>,
 ) -> Result<(), Loss>
-    ensures runs { BringsNothing S.remaining S.contents id.value (inner_of stream.old) (inner_of stream.new) }
+    ensures runs { BringsNothing S.remaining S.contents id.value (inner_of stream.old)
+        (inner_of stream.new) }
 {
     match tell(id, command, stream) {
         Ok(()) => Ok(()),
@@ -45,7 +47,8 @@ pub(crate) fn let_go<S: Drop>(stream: Counting<S>)
 
 /// Tells the stream to send its configuration, and then its data.
 pub(crate) fn ask<S: Read + Write>(id: StreamId, stream: &mut Counting<S>) -> Result<(), Loss>
-    ensures runs { BringsNothing S.remaining S.contents id.value (inner_of stream.old) (inner_of stream.new) }
+    ensures runs { BringsNothing S.remaining S.contents id.value (inner_of stream.old)
+        (inner_of stream.new) }
 {
     order(id, Command::SendCfg2, stream)?;
     order(id, Command::DataOn, stream)
@@ -54,7 +57,8 @@ pub(crate) fn ask<S: Read + Write>(id: StreamId, stream: &mut Counting<S>) -> Re
 /// Reads once. Answers whether bytes came.
 fn read_more<S: Read + Write>(unread: &mut Unread, stream: &mut Counting<S>) -> Result<bool, Loss>
     requires { unread.old ≡ [] }
-    ensures runs { BringsBytes S.remaining S.contents (inner_of stream.old) (inner_of stream.new) unread.old unread.new }
+    ensures runs { BringsBytes S.remaining S.contents (inner_of stream.old) (inner_of stream.new)
+        unread.old unread.new }
     ensures none { result ≡ Ok false → unread.new ≡ [] }
     ensures err { OnErr result (unread.new ≡ []) }
 {
@@ -76,7 +80,8 @@ fn read_more<S: Read + Write>(unread: &mut Unread, stream: &mut Counting<S>) -> 
 
 /// Reads once, where no byte is left. Answers whether there are bytes.
 fn read<S: Read + Write>(unread: &mut Unread, stream: &mut Counting<S>) -> Result<bool, Loss>
-    ensures runs { BringsBytes S.remaining S.contents (inner_of stream.old) (inner_of stream.new) unread.old unread.new }
+    ensures runs { BringsBytes S.remaining S.contents (inner_of stream.old) (inner_of stream.new)
+        unread.old unread.new }
     ensures none { result ≡ Ok false → unread.new ≡ [] }
     ensures err { OnErr result (unread.new ≡ []) }
 {
@@ -91,7 +96,8 @@ fn cut(framer: &mut Framer, unread: &mut Unread, buffer: &mut [u8]) -> Result<Ca
     requires { MAX_SIZE ≤ length buffer.old }
     ensures kept { length buffer.new ≡ length buffer.old }
     ensures fits { IfOk result (λ came. fits_in came (length buffer.new)) }
-    ensures takes { TakesFront framer.old unread.old framer.new unread.new (frames_in result buffer.new) }
+    ensures takes { TakesFront framer.old unread.old framer.new unread.new
+        (frames_in result buffer.new) }
     ensures done { frames_in result buffer.new ≡ [] → IsDone framer.new unread.new }
 {
     let (taken, step) = framer.feed(unread.bytes());
@@ -119,7 +125,8 @@ pub(crate) fn take<S: Read + Write>(
     ensures fits { IfOk result (λ came. fits_in came (length buffer.new)) }
     ensures runs { (id : ℕ) (made : S) (frames : List (List ℕ))
         → HasRun S.remaining S.contents id made (inner_of stream.old) framer.old unread.old frames
-        → HasRun S.remaining S.contents id made (inner_of stream.new) framer.new unread.new (frames ++ frames_in result buffer.new) }
+        → HasRun S.remaining S.contents id made (inner_of stream.new) framer.new unread.new
+        (frames ++ frames_in result buffer.new) }
     ensures done { frames_in result buffer.new ≡ [] → IsDone framer.new unread.new }
 {
     if read(unread, stream)? {

@@ -48,7 +48,8 @@ impl<S: SendTo + Drop> UdpSink<S> {
 impl<S: SendTo + Drop> Sink for UdpSink<S> {
     ghost use Rattle.pdc_network.specs.Handed.{HasTaken, took_nothing};
 
-    ghost took = { λ before now frames. HasTaken S.sent before.destination now.destination before.failures now.failures frames };
+    ghost took = { λ before now frames. HasTaken S.sent before.destination now.destination
+        before.failures now.failures frames };
 
     ghost nothing = { λ s. took_nothing S.sent S.sent_nothing s.destination s.failures };
 

@@ -88,7 +88,8 @@ impl<S: Receive + Drop> UdpSource<S> {
         ensures socket { socket_of self.new ≡ socket_of self.old }
         ensures from { read_from self.new ≡ from }
         // Where nothing was asked of its socket yet it said nothing, whichever address that is.
-        ensures silent { S.received (socket_of self.old) [] → ⟦<UdpSource<S> as Source>⟧.told self.new [] }
+        ensures silent { S.received (socket_of self.old) [] →
+            ⟦<UdpSource<S> as Source>⟧.told self.new [] }
     {
         self.from = from;
     }

@@ -35,8 +35,10 @@ impl<
     pub(crate) fn next(&mut self, buffer: &mut [u8]) -> Next
         ensures kept { length buffer.new ≡ length buffer.old }
         ensures datagram { (n : ℕ) → result ≡ Next.Datagram n → n ≤ length buffer.new }
-        ensures tells { (heard : List Heard) → IsHeardBy S.received D.dialed D.Stream.remaining D.Stream.contents self.old heard
-            → IsHeardBy S.received D.dialed D.Stream.remaining D.Stream.contents self.new (heard ++ heard_by result buffer.new ∷ []) }
+        ensures tells { (heard : List Heard) →
+            IsHeardBy S.received D.dialed D.Stream.remaining D.Stream.contents self.old heard
+            → IsHeardBy S.received D.dialed D.Stream.remaining D.Stream.contents self.new (heard ++
+            heard_by result buffer.new ∷ []) }
     {
         match self {
             Way::Datagrams(port) => port.next(buffer),
@@ -46,7 +48,8 @@ impl<
 
     /// Takes how its last frame was answered.
     pub(crate) fn answered(&mut self, outcome: Option<Outcome>)
-        ensures tells { (heard : List Heard) → IsHeardBy S.received D.dialed D.Stream.remaining D.Stream.contents self.old heard
+        ensures tells { (heard : List Heard) →
+            IsHeardBy S.received D.dialed D.Stream.remaining D.Stream.contents self.old heard
             → IsHeardBy S.received D.dialed D.Stream.remaining D.Stream.contents self.new heard }
     {
         match self {

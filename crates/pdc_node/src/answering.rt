@@ -30,9 +30,12 @@ pub fn answer_data<T: Table>(
     requires { IsReady alignment.old.state stream }
     ensures answer { (g : Given) (E : List Entry) → StandsFor g E alignment.old.state →
         result ≡ (node_answer g E stream (Data instant quality payload.now)).outcome }
-    ensures stands { (g : Given) (E : List Entry) (bytes : List ℕ) → StandsFor g E alignment.old.state →
-        IsRun g (answered node_answer g E (ToArrive stream bytes (Data instant quality payload.now)) ∷ E) →
-        StandsFor g (answered node_answer g E (ToArrive stream bytes (Data instant quality payload.now)) ∷ E) alignment.new.state }
+    ensures stands { (g : Given) (E : List Entry) (bytes : List ℕ) →
+        StandsFor g E alignment.old.state →
+        IsRun g (answered node_answer g E (ToArrive stream bytes
+        (Data instant quality payload.now)) ∷ E) →
+        StandsFor g (answered node_answer g E (ToArrive stream bytes
+        (Data instant quality payload.now)) ∷ E) alignment.new.state }
     ensures unchanged { Unchanged alignment.old alignment.new }
 {
     others_are_left();
@@ -57,12 +60,17 @@ fn answer_layout<T: Table>(
     sections: &[ColumnSection<'_>],
 ) -> Outcome
     requires ready { IsReady alignment.old.state stream }
-    requires own { AllByRecursion (λ (part : ℕ × SectionFields). part.0 ≡ stream) (map section_part sections.now) }
-    ensures answer { (g : Given) (E : List Entry) (stamp : Option Stamp) → StandsFor g E alignment.old.state → opening ≡ count_for stream g.counts →
+    requires own { AllByRecursion (λ (part : ℕ × SectionFields). part.0 ≡
+        stream) (map section_part sections.now) }
+    ensures answer { (g : Given) (E : List Entry) (stamp : Option Stamp) →
+        StandsFor g E alignment.old.state → opening ≡ count_for stream g.counts →
         result ≡ (node_answer g E stream (Layout stamp (map section_part sections.now))).outcome }
-    ensures stands { (g : Given) (E : List Entry) (bytes : List ℕ) (stamp : Option Stamp) → StandsFor g E alignment.old.state → opening ≡ count_for stream g.counts →
-        IsRun g (answered node_answer g E (ToArrive stream bytes (Layout stamp (map section_part sections.now))) ∷ E) →
-        StandsFor g (answered node_answer g E (ToArrive stream bytes (Layout stamp (map section_part sections.now))) ∷ E) alignment.new.state }
+    ensures stands { (g : Given) (E : List Entry) (bytes : List ℕ) (stamp : Option Stamp) →
+        StandsFor g E alignment.old.state → opening ≡ count_for stream g.counts →
+        IsRun g (answered node_answer g E (ToArrive stream bytes
+        (Layout stamp (map section_part sections.now))) ∷ E) →
+        StandsFor g (answered node_answer g E (ToArrive stream bytes
+        (Layout stamp (map section_part sections.now))) ∷ E) alignment.new.state }
     ensures unchanged { Unchanged alignment.old alignment.new }
 {
     others_are_left();
@@ -85,11 +93,14 @@ pub fn answer<T: Table>(
 ) -> Outcome
     requires ready { IsReady alignment.old.state stream }
     requires own { IsOwn stream (arrival_view arrival.now) }
-    ensures answer { (g : Given) (E : List Entry) → StandsFor g E alignment.old.state → opening.now ≡ g.counts →
+    ensures answer { (g : Given) (E : List Entry) → StandsFor g E alignment.old.state →
+        opening.now ≡ g.counts →
         result ≡ (node_answer g E stream (arrival_view arrival.now)).outcome }
-    ensures stands { (g : Given) (E : List Entry) (bytes : List ℕ) → StandsFor g E alignment.old.state → opening.now ≡ g.counts →
+    ensures stands { (g : Given) (E : List Entry) (bytes : List ℕ) →
+        StandsFor g E alignment.old.state → opening.now ≡ g.counts →
         IsRun g (answered node_answer g E (ToArrive stream bytes (arrival_view arrival.now)) ∷ E) →
-        StandsFor g (answered node_answer g E (ToArrive stream bytes (arrival_view arrival.now)) ∷ E) alignment.new.state }
+        StandsFor g (answered node_answer g E (ToArrive stream bytes (arrival_view arrival.now)) ∷
+        E) alignment.new.state }
     ensures unchanged { Unchanged alignment.old alignment.new }
 {
     others_are_left();

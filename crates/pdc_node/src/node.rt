@@ -58,7 +58,8 @@ impl<T: Table> Model for Node<T> {
 /// How the instants of a node are aligned: each PMU has a stream and a column of its own.
 fn plan_of(settings: &Settings) -> Plan
     ensures given { (start floor : ℕ) (counts : List ℕ) (opening : ℕ) →
-        given_by result settings.now.output start floor counts opening ≡ given_of (OfNode settings.now) start floor counts opening }
+        given_by result settings.now.output start floor counts opening ≡
+        given_of (OfNode settings.now) start floor counts opening }
     ensures columns { result.columns ≡ length settings.now.pmus.items }
     ensures lanes { result.lanes ≡ 1 }
 {
@@ -87,7 +88,8 @@ impl<T: Table> Node<T> {
         counts: &[u16; MAX_PMUS],
         now: u64,
     ) -> Result<Node<T>, AllocError>
-        ensures stands { IfOk result (λ n. StandsFor (given_of (OfNode settings) start floor counts.now now) [] n) }
+        ensures stands { IfOk result (λ n. StandsFor
+            (given_of (OfNode settings) start floor counts.now now) [] n) }
         ensures settings { IfOk result (λ n. n.settings ≡ settings) }
         ensures popped { IfOk result (λ n. n.popped ≡ floor) }
         ensures refused { OnErr result SomeWasRefused }
@@ -107,8 +109,11 @@ impl<T: Table> Node<T> {
         requires { stream < length self.old.settings.pmus.items }
         ensures answer { (g : Given) (E : List Entry) → StandsFor g E self.old →
             result ≡ (node_answer g E stream (Data instant quality payload.now)).outcome }
-        ensures stands { (g : Given) (E : List Entry) (bytes : List ℕ) → Says (OfNode self.old.settings) stream bytes (Data instant quality payload.now) →
-            StandsFor g E self.old → StandsFor g (answered node_answer g E (ToArrive stream bytes (Data instant quality payload.now)) ∷ E) self.new }
+        ensures stands { (g : Given) (E : List Entry) (bytes : List ℕ) →
+            Says (OfNode self.old.settings) stream bytes (Data instant quality payload.now) →
+            StandsFor g E self.old →
+            StandsFor g (answered node_answer g E (ToArrive stream bytes
+            (Data instant quality payload.now)) ∷ E) self.new }
         ensures counts { self.new.counts ≡ after_answer result self.old.counts }
         ensures popped { self.new.popped ≡ self.old.popped }
         ensures settings { self.new.settings ≡ self.old.settings }
@@ -132,8 +137,11 @@ impl<T: Table> Node<T> {
         requires { fits_node self.old.settings stream (taken_view taken.now) ≡ true }
         ensures answer { (g : Given) (E : List Entry) → StandsFor g E self.old →
             result ≡ (node_answer g E stream (taken_view taken.now)).outcome }
-        ensures stands { (g : Given) (E : List Entry) (bytes : List ℕ) → Says (OfNode self.old.settings) stream bytes (taken_view taken.now) →
-            StandsFor g E self.old → StandsFor g (answered node_answer g E (ToArrive stream bytes (taken_view taken.now)) ∷ E) self.new }
+        ensures stands { (g : Given) (E : List Entry) (bytes : List ℕ) →
+            Says (OfNode self.old.settings) stream bytes (taken_view taken.now) →
+            StandsFor g E self.old →
+            StandsFor g (answered node_answer g E (ToArrive stream bytes (taken_view taken.now)) ∷
+            E) self.new }
         ensures counts { self.new.counts ≡ after_answer result self.old.counts }
         ensures popped { self.new.popped ≡ self.old.popped }
         ensures settings { self.new.settings ≡ self.old.settings }
@@ -149,8 +157,11 @@ impl<T: Table> Node<T> {
         requires { fits_node self.old.settings stream (reading_view stream reading) ≡ true }
         ensures answer { (g : Given) (E : List Entry) → StandsFor g E self.old →
             result ≡ (node_answer g E stream (reading_view stream reading.entry)).outcome }
-        ensures stands { (g : Given) (E : List Entry) (bytes : List ℕ) → Says (OfNode self.old.settings) stream bytes (reading_view stream reading.entry) →
-            StandsFor g E self.old → StandsFor g (answered node_answer g E (ToArrive stream bytes (reading_view stream reading.entry)) ∷ E) self.new }
+        ensures stands { (g : Given) (E : List Entry) (bytes : List ℕ) →
+            Says (OfNode self.old.settings) stream bytes (reading_view stream reading.entry) →
+            StandsFor g E self.old →
+            StandsFor g (answered node_answer g E (ToArrive stream bytes
+            (reading_view stream reading.entry)) ∷ E) self.new }
         ensures counts { self.new.counts ≡ after_answer result self.old.counts }
         ensures popped { self.new.popped ≡ self.old.popped }
         ensures settings { self.new.settings ≡ self.old.settings }

@@ -25,7 +25,8 @@ pub fn copy_of(settings: &Settings) -> Settings
 }
 
 impl<T: Table> Opens for Node<T> {
-    ghost given_with = { λ settings start floor counts. given_of (OfNode settings) start floor counts 0 };
+    ghost given_with = { λ settings start floor counts. given_of (OfNode settings) start floor
+        counts 0 };
 
     ghost output_of = { λ settings. settings.output };
 

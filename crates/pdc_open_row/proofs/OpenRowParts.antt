@@ -1,14 +1,15 @@
 -- The columns of an open row whose flags and cells stand in lists of their own.
-use Rattle.std.proofs.Common.{◌≡◌, ℕ, ◌+◌, ◌<◌, ◌≤◌, Bool, true, false, cond, drop, eqb, take, ◌||◌, List, [], ◌∷◌, length, get_or, set, replicate, map, None, Some, Option, append-nil, ap, sym, refl, ◌∙◌, arith, zero, suc}
-use Rattle.std.specs.List.{list_any, refill}
+use Rattle.std.proofs.Common.{◌≡◌, true≢false, ℕ, ◌+◌, ◌<◌, ◌≤◌, Bool, true, false, cond, drop, eqb, take, ◌||◌, List, [], ◌∷◌, length, get_or, set, replicate, map, None, Some, Option, append-nil, ap, subst, sym, refl, ◌∙◌, arith, zero, suc}
+use Rattle.std.specs.List.{refill}
+use Rattle.std.specs.Prelude.{is_some}
 use Rattle.std.proofs.lemmas.Bool.{or_parts}
 use Rattle.std.proofs.lemmas.List.{drop_all, length-map, length-replicate, length-set, take_all}
 use Rattle.pdc_row.specs.pdc_cfg.declared.shape.Shape.{Shape}
 use Rattle.pdc_row.specs.CellView.{CellView}
 use Rattle.pdc_row.specs.Chosen.{present_of}
 use Rattle.pdc_open_row.specs.Chosen.{are_different, disagreement_at, disagreements_of}
-use Rattle.pdc_open_row.specs.OpenRowParts.{column_of, columns_of, nothing, without_lane}
-use Rattle.pdc_open_row.specs.Taking.{with_cell}
+use Rattle.pdc_open_row.specs.OpenRowParts.{column_of, columns_of, nothing, second_of, without_lane}
+use Rattle.pdc_open_row.specs.Taking.{any_second, with_cell, with_cells}
 use Rattle.pdc_open_row.specs.Views.{ColumnView, empty_column, kept}
 use Rattle.pdc_open_row.specs.declared.column.Held.{Held}
 
@@ -42,20 +43,6 @@ column_written (y ∷ hs) (g ∷ fs) [] i x f s l h k = absurd (omega arith)
 column_written (y ∷ hs) (g ∷ fs) (t ∷ ss) zero x f s l h k = refl
 column_written (y ∷ hs) (g ∷ fs) (t ∷ ss) (suc i) x f s l h k = ap (λ cs. column_of y g t ∷ cs) (column_written hs fs ss i x f s (omega arith) (omega arith) (omega arith))
 
-pub first_written : (hs : List Held) (fs ss : List CellView) (i : ℕ) (x : Held) (f s : CellView) → i < length hs → length hs ≤ length fs → length hs ≤ length ss → columns_of (set hs i x) (set fs i f) ss ≡ set (columns_of hs fs ss) i (column_of x f (get_or ss i s))
-first_written [] fs ss i x f s l h k = absurd (omega arith)
-first_written (y ∷ hs) [] ss i x f s l h k = absurd (omega arith)
-first_written (y ∷ hs) (g ∷ fs) [] i x f s l h k = absurd (omega arith)
-first_written (y ∷ hs) (g ∷ fs) (t ∷ ss) zero x f s l h k = refl
-first_written (y ∷ hs) (g ∷ fs) (t ∷ ss) (suc i) x f s l h k = ap (λ cs. column_of y g t ∷ cs) (first_written hs fs ss i x f s (omega arith) (omega arith) (omega arith))
-
-pub second_written : (hs : List Held) (fs ss : List CellView) (i : ℕ) (x : Held) (f s : CellView) → i < length hs → length hs ≤ length fs → length hs ≤ length ss → columns_of (set hs i x) fs (set ss i s) ≡ set (columns_of hs fs ss) i (column_of x (get_or fs i f) s)
-second_written [] fs ss i x f s l h k = absurd (omega arith)
-second_written (y ∷ hs) [] ss i x f s l h k = absurd (omega arith)
-second_written (y ∷ hs) (g ∷ fs) [] i x f s l h k = absurd (omega arith)
-second_written (y ∷ hs) (g ∷ fs) (t ∷ ss) zero x f s l h k = refl
-second_written (y ∷ hs) (g ∷ fs) (t ∷ ss) (suc i) x f s l h k = ap (λ cs. column_of y g t ∷ cs) (second_written hs fs ss i x f s (omega arith) (omega arith) (omega arith))
-
 -- a column is emptied
 pub column_emptied : (hs : List Held) (fs ss : List CellView) (i : ℕ) → i < length hs → length hs ≤ length fs → length hs ≤ length ss → columns_of (set hs i nothing) fs ss ≡ set (columns_of hs fs ss) i empty_column
 column_emptied [] fs ss i l h k = absurd (omega arith)
@@ -81,13 +68,6 @@ lane_emptied lane [] fs ss = refl
 lane_emptied lane (x ∷ hs) [] ss = refl
 lane_emptied lane (x ∷ hs) (f ∷ fs) [] = refl
 lane_emptied lane (x ∷ hs) (f ∷ fs) (s ∷ ss) = rw (lane_emptied_at (eqb lane 0) x f s, lane_emptied lane hs fs ss) refl
-
--- one column, of cells that were read
-pub column_read : (hs : List Held) (fs ss : List CellView) (i : ℕ) (d : ColumnView) (x : Held) (f s : CellView) → i < length hs → length hs ≤ length fs → length hs ≤ length ss → f ≡ get_or fs i f → s ≡ get_or ss i s → get_or (columns_of hs fs ss) i d ≡ column_of (get_or hs i x) f s
-column_read hs fs ss i d x f s l h k e m =
-    column_at hs fs ss i d x f s l h k
-    ∙ ap (λ g. column_of (get_or hs i x) g (get_or ss i s)) (sym e)
-    ∙ ap (λ t. column_of (get_or hs i x) f t) (sym m)
 
 -- a cell is put into a column
 pub column_put : (hs : List Held) (fs ss : List CellView) (i lane : ℕ) (cell : Option CellView) (x y : Held) (f s g t : CellView) → i < length hs → length hs ≤ length fs → length hs ≤ length ss → column_of y g t ≡ with_cell lane cell (column_of (get_or hs i x) (get_or fs i f) (get_or ss i s)) → columns_of (set hs i y) (set fs i g) (set ss i t) ≡ set (columns_of hs fs ss) i (with_cell lane cell (get_or (columns_of hs fs ss) i empty_column))
@@ -136,59 +116,95 @@ all_dropped hs lent ws fs ss e k h m =
     ∙ columns_emptied (length hs) fs ss h m
     ∙ ap (λ n. replicate n empty_column) (sym (columns_count hs fs ss h m))
 
--- whether lane 1 of some column holds a cell
-abbrev pub any_second : List Held → Bool
-any_second hs = list_any (λ (h : Held). h.second) hs
+-- a cell is put into a column by what is lent
+pub column_lent : (columns : List ColumnView) (hs lent : List Held) (fs ss : List CellView) (i lane : ℕ) (cell : Option CellView) (x y : Held) (f s g t : CellView) → columns_of hs fs ss ≡ columns → lent ≡ hs → i < length hs → length hs ≤ length fs → length hs ≤ length ss → column_of y g t ≡ with_cell lane cell (column_of (get_or lent i x) (get_or fs i f) (get_or ss i s)) → columns_of (refill (length hs) hs (set lent i y)) (set fs i g) (set ss i t) ≡ set columns i (with_cell lane cell (get_or columns i empty_column))
+column_lent columns hs lent fs ss i lane cell x y f s g t e m l h k p =
+    subst (λ (cs : List ColumnView). columns_of (refill (length hs) hs (set lent i y)) (set fs i g) (set ss i t) ≡ set cs i (with_cell lane cell (get_or cs i empty_column))) e
+    (rw (one_rewritten hs lent i y m) (column_put hs fs ss i lane cell x y f s g t l h k (rw (← m) p)))
+
+-- what is seen of columns, one of them, and what is behind the last
+pub placed : (columns : List ColumnView) (hs : List Held) (fs ss : List CellView) (i : ℕ) → columns_of hs fs ss ≡ columns → length hs ≤ length fs → length hs ≤ length ss → i < length columns → i < length hs
+placed columns hs fs ss i e h k l = omega (arith, columns_seen columns hs fs ss e h k)
+
+pub column_seen : (columns : List ColumnView) (hs lent : List Held) (fs ss : List CellView) (i : ℕ) (d : ColumnView) (x : Held) (f s : CellView) → columns_of hs fs ss ≡ columns → lent ≡ hs → i < length hs → length hs ≤ length fs → length hs ≤ length ss → get_or columns i d ≡ column_of (get_or lent i x) (get_or fs i f) (get_or ss i s)
+column_seen columns hs lent fs ss i d x f s e m l h k =
+    ap (λ (cs : List ColumnView). get_or cs i d) (sym e)
+    ∙ column_at hs fs ss i d x f s l h k
+    ∙ ap (λ ls. column_of (get_or ls i x) (get_or fs i f) (get_or ss i s)) (sym m)
+
+pub past_seen : (columns : List ColumnView) (hs : List Held) (fs ss : List CellView) (i : ℕ) (d : ColumnView) → columns_of hs fs ss ≡ columns → length hs ≤ i → get_or columns i d ≡ d
+past_seen columns hs fs ss i d e l = ap (λ (cs : List ColumnView). get_or cs i d) (sym e) ∙ column_past hs fs ss i d l
+
+-- whether lane 1 of some column holds a cell is what is held of them
+is_kept : (b : Bool) (cell : CellView) → is_some (kept b cell) ≡ b
+is_kept true cell = refl
+is_kept false cell = refl
+
+-- with nothing in lane 1, each column has nothing there
+pub none_second : (hs : List Held) (fs ss : List CellView) (i : ℕ) (x : Held) → i < length hs → length hs ≤ length fs → length hs ≤ length ss → any_second (columns_of hs fs ss) ≡ false → (get_or hs i x).second ≡ false
+none_second [] fs ss i x l a b e = absurd (omega arith)
+none_second (h ∷ hs) [] ss i x l a b e = absurd (omega arith)
+none_second (h ∷ hs) (f ∷ fs) [] i x l a b e = absurd (omega arith)
+none_second (h ∷ hs) (f ∷ fs) (s ∷ ss) zero x l a b e = sym (is_kept h.second (second_of h f s)) ∙ (or_parts (is_some (column_of h f s).second) (any_second (columns_of hs fs ss)) e).0
+none_second (h ∷ hs) (f ∷ fs) (s ∷ ss) (suc i) x l a b e = none_second hs fs ss i x (omega arith) (omega arith) (omega arith) (or_parts (is_some (column_of h f s).second) (any_second (columns_of hs fs ss)) e).1
+
+pub none_lent : (columns : List ColumnView) (hs lent : List Held) (fs ss : List CellView) (i : ℕ) (x : Held) → columns_of hs fs ss ≡ columns → lent ≡ hs → i < length hs → length hs ≤ length fs → length hs ≤ length ss → any_second columns ≡ false → (get_or lent i x).second ≡ false
+none_lent columns hs lent fs ss i x e m l h k a = ap (λ ls. (get_or ls i x).second) m ∙ none_second hs fs ss i x l h k (ap any_second e ∙ a)
 
 -- where lane 1 holds nothing, it holds nothing when a column is emptied
-pub none_set : (hs : List Held) (i : ℕ) → any_second hs ≡ false → any_second (set hs i nothing) ≡ false
+pub none_set : (cs : List ColumnView) (i : ℕ) → any_second cs ≡ false → any_second (set cs i empty_column) ≡ false
 none_set [] i e = refl
-none_set (h ∷ hs) zero e = (or_parts h.second (any_second hs) e).1
-none_set (h ∷ hs) (suc i) e = rw ((or_parts h.second (any_second hs) e).0, none_set hs i (or_parts h.second (any_second hs) e).1) refl
+none_set (c ∷ cs) zero e = (or_parts (is_some c.second) (any_second cs) e).1
+none_set (c ∷ cs) (suc i) e = rw ((or_parts (is_some c.second) (any_second cs) e).0, none_set cs i (or_parts (is_some c.second) (any_second cs) e).1) refl
 
-without_second : (is_first : Bool) (h : Held) → h.second ≡ false → (cond is_first (record h { first = false }) (record h { second = false })).second ≡ false
-without_second true h e = e
-without_second false h e = refl
+without_second : (is_first : Bool) (c : ColumnView) → is_some c.second ≡ false → is_some (cond is_first (record c { first = None }) (record c { second = None })).second ≡ false
+without_second true c e = e
+without_second false c e = refl
 
 -- and when a lane of each column is emptied
-pub none_mapped : (lane : ℕ) (hs : List Held) → any_second hs ≡ false → any_second (map (without_lane lane) hs) ≡ false
+pub none_mapped : (lane : ℕ) (cs : List ColumnView) → any_second cs ≡ false → any_second (map (with_cell lane None) cs) ≡ false
 none_mapped lane [] e = refl
-none_mapped lane (h ∷ hs) e =
-    rw (without_second (eqb lane 0) h (or_parts h.second (any_second hs) e).0, none_mapped lane hs (or_parts h.second (any_second hs) e).1) refl
+none_mapped lane (c ∷ cs) e =
+    rw (without_second (eqb lane 0) c (or_parts (is_some c.second) (any_second cs) e).0, none_mapped lane cs (or_parts (is_some c.second) (any_second cs) e).1) refl
 
--- a row of empty columns holds nothing in lane 1
-pub none_replicated : (n : ℕ) → any_second (replicate n nothing) ≡ false
+-- empty columns hold nothing in lane 1
+pub none_replicated : (n : ℕ) → any_second (replicate n empty_column) ≡ false
 none_replicated zero = refl
 none_replicated (suc n) = none_replicated n
 
--- a change that leaves lane 1 of a column leaves whether some column holds a cell there
-pub second_kept : (hs : List Held) (i : ℕ) (x y : Held) → i < length hs → y.second ≡ (get_or hs i x).second → any_second (set hs i y) ≡ any_second hs
-second_kept [] i x y l e = absurd (omega arith)
-second_kept (h ∷ hs) zero x y l e = ap (λ b. b || any_second hs) e
-second_kept (h ∷ hs) (suc i) x y l e = ap (λ b. h.second || b) (second_kept hs i x y (omega arith) e)
+-- a cell that is put into lane 0 leaves whether some column holds a cell in lane 1
+second_kept : (lane : ℕ) (cell : Option CellView) (cs : List ColumnView) (i : ℕ) → lane ≡ 0 → any_second (set cs i (with_cell lane cell (get_or cs i empty_column))) ≡ any_second cs
+second_kept lane cell [] i e = refl
+second_kept lane cell (c ∷ cs) zero e = rw e refl
+second_kept lane cell (c ∷ cs) (suc i) e = ap (λ b. is_some c.second || b) (second_kept lane cell cs i e)
 
--- with nothing in lane 1, each column has nothing there
-pub none_second : (hs : List Held) (i : ℕ) (x : Held) → i < length hs → any_second hs ≡ false → (get_or hs i x).second ≡ false
-none_second [] i x l e = absurd (omega arith)
-none_second (h ∷ hs) zero x l e = (or_parts h.second (any_second hs) e).0
-none_second (h ∷ hs) (suc i) x l e = none_second hs i x (omega arith) (or_parts h.second (any_second hs) e).1
+pub seconds_kept : (lane : ℕ) (cells : List (ℕ × CellView)) (cs : List ColumnView) → lane ≡ 0 → any_second (with_cells lane cells cs) ≡ any_second cs
+seconds_kept lane [] cs e = refl
+seconds_kept lane (cell ∷ cells) cs e =
+    seconds_kept lane cells (set cs cell.0 (with_cell lane (Some cell.1) (get_or cs cell.0 empty_column))) e
+    ∙ second_kept lane (Some cell.1) cs cell.0 e
 
 -- with nothing in lane 1, no column disagrees
-alone : (shape : Option Shape) (h : Held) (f s : CellView) → h.second ≡ false → disagreement_at shape (column_of h f s) ≡ 0
-alone None h f s e = refl
-alone (Some shape) h f s e = rw e (lone (present_of (kept h.first f)))
+lone : (first second : Option CellView) → is_some second ≡ false → cond {A = ℕ} (are_different (present_of first) (present_of second)) 1 0 ≡ 0
+lone first (Some cell) e = absurd (true≢false e)
+lone first None e = lone_first (present_of first)
   where
-    lone : (a : Option CellView) → cond {A = ℕ} (are_different a None) 1 0 ≡ 0
-    lone None = refl
-    lone (Some c) = refl
+    lone_first : (a : Option CellView) → cond {A = ℕ} (are_different a None) 1 0 ≡ 0
+    lone_first None = refl
+    lone_first (Some c) = refl
 
-pub none_disagree : (shapes : List (Option Shape)) (hs : List Held) (fs ss : List CellView) → any_second hs ≡ false → disagreements_of shapes (columns_of hs fs ss) ≡ 0
-none_disagree [] hs fs ss e = refl
-none_disagree (shape ∷ shapes) [] fs ss e = refl
-none_disagree (shape ∷ shapes) (h ∷ hs) [] ss e = refl
-none_disagree (shape ∷ shapes) (h ∷ hs) (f ∷ fs) [] e = refl
-none_disagree (shape ∷ shapes) (h ∷ hs) (f ∷ fs) (s ∷ ss) e =
-    rw (alone shape h f s (or_parts h.second (any_second hs) e).0, none_disagree shapes hs fs ss (or_parts h.second (any_second hs) e).1) refl
+alone : (shape : Option Shape) (c : ColumnView) → is_some c.second ≡ false → disagreement_at shape c ≡ 0
+alone None c e = refl
+alone (Some shape) c e = lone c.first c.second e
+
+pub nothing_disagrees : (shape : Option Shape) → disagreement_at shape empty_column ≡ 0
+nothing_disagrees shape = alone shape empty_column refl
+
+pub none_disagree : (shapes : List (Option Shape)) (cs : List ColumnView) → any_second cs ≡ false → disagreements_of shapes cs ≡ 0
+none_disagree [] cs e = refl
+none_disagree (shape ∷ shapes) [] e = refl
+none_disagree (shape ∷ shapes) (c ∷ cs) e =
+    rw (alone shape c (or_parts (is_some c.second) (any_second cs) e).0, none_disagree shapes cs (or_parts (is_some c.second) (any_second cs) e).1) refl
 
 -- the cells of one column more are copies, as far as they are held
 one_copied : (hs : List Held) (fs ss gs ts : List CellView) (i : ℕ) (h : Held) (f s g t : CellView) → i < length hs → length hs ≤ length fs → length hs ≤ length ss → length hs ≤ length gs → length hs ≤ length ts → column_of (get_or hs i h) f s ≡ column_of (get_or hs i h) (get_or gs i g) (get_or ts i t) → columns_of (take i hs) fs ss ≡ columns_of (take i hs) gs ts → columns_of (take (suc i) hs) (set fs i f) (set ss i s) ≡ columns_of (take (suc i) hs) gs ts

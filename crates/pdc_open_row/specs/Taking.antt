@@ -1,6 +1,6 @@
 -- What a frame is answered at the row of its instant, and what it makes of it where it is taken.
-use Rattle.std.specs.Prelude.{ℕ, ◌==◌, Bool, true, false, not, if◌then◌else◌, List, [], ◌∷◌, map, Option, Some, None, slice_set, slice_index_or}
-use Rattle.std.specs.List.{list_any}
+use Rattle.std.specs.Prelude.{ℕ, ◌<◌, ◌==◌, Bool, true, false, not, if◌then◌else◌, List, [], ◌∷◌, length, map, Option, Some, None, is_some, slice_set, slice_index_or}
+use Rattle.std.specs.List.{All, list_any}
 use Rattle.pdc_row.specs.pdc_block.declared.block.Block.{Block}
 use Rattle.pdc_row.specs.pdc_block.declared.body.Body.{Body}
 use Rattle.pdc_row.specs.CellView.{BlockView, CellView, body_view, cell_view, same_block}
@@ -19,6 +19,14 @@ cells_in {B = B} view blocks quality = map (λ (part : ℕ × B). (part.0, recor
 -- the cells that the blocks of a frame make where they are lent from its payload
 abbrev pub body_cells_of : List (ℕ × Body) → (quality : ℕ) → List (ℕ × CellView)
 body_cells_of bodies quality = cells_in body_view bodies quality
+
+-- there is the column of each of these cells
+abbrev pub HaveColumns : List (ℕ × CellView) → List ColumnView → Type 0
+HaveColumns cells columns = All (λ (cell : ℕ × CellView). cell.0 < length columns) cells
+
+-- lane 1 of some column holds a cell
+abbrev pub any_second : List ColumnView → Bool
+any_second columns = list_any (λ (column : ColumnView). is_some column.second) columns
 
 -- what a lane of a column holds
 abbrev pub cell_in : ℕ → ColumnView → Option CellView

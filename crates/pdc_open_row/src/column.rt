@@ -1,10 +1,12 @@
 //! What was taken of one column at one instant, lane by lane. Which lanes hold a cell stands apart from the cells, so that a
 //! look at what is held reads no cell.
-ghost use Rattle.std.specs.Prelude.{◌≡◌, ◌≤◌, IfSome, false, length, map, option_map, replicate, true, Some};
+ghost use Rattle.std.specs.Prelude.{◌≡◌, ◌≤◌, IfSome, false, length, map, option_map, replicate};
+ghost use Rattle.std.specs.Prelude.{true, Some};
 ghost use Rattle.pdc_row.specs.CellView.{CellView, same_block};
 ghost use Rattle.pdc_row.specs.Chosen.{present_of};
 ghost use Rattle.pdc_open_row.specs.Chosen.{are_different, chosen_of, disagreement_at};
-ghost use Rattle.pdc_open_row.specs.OpenRowParts.{chosen_view, column_of, nothing, second_of, without_lane};
+ghost use Rattle.pdc_open_row.specs.OpenRowParts.{chosen_view, column_of, nothing, second_of};
+ghost use Rattle.pdc_open_row.specs.OpenRowParts.{without_lane};
 ghost use Rattle.pdc_open_row.specs.Taking.{cell_in, holds_other, with_cell};
 ghost use Rattle.pdc_open_row.specs.Views.{kept};
 
@@ -17,7 +19,8 @@ pub struct Held {
     pub first: bool,
     /// Whether lane 1 holds one, in a table of two lanes.
     pub second: bool,
-    /// Whether the block of lane 1, where it holds one, stands in the cell of lane 0, since it was found to be the same: else it stands in its own.
+    /// Whether the block of lane 1, where it holds one, stands in the cell of lane 0, since it was found to be the same: else it stands in
+    /// its own.
     pub alike: bool,
     /// The time quality byte of the frame of lane 1.
     pub quality: u8,
@@ -64,7 +67,8 @@ impl Held {
     /// The block of the lowest lane whose block is present, of these cells of the column.
     #[inline]
     pub(crate) fn chosen<'a>(&self, first: &'a Cell, second: &'a Cell) -> Option<Chosen<'a>>
-        ensures { option_map chosen_view result ≡ chosen_of (column_of self.now first.now second.now) }
+        ensures { option_map chosen_view result ≡
+            chosen_of (column_of self.now first.now second.now) }
     {
         if self.first && first.is_present() {
             return Some(Chosen {
@@ -82,7 +86,8 @@ impl Held {
     /// The block of lane 0, where it is held and present, of these cells of the column.
     #[inline(always)]
     pub(crate) fn first_present<'a>(&self, first: &'a Cell, _second: &Cell) -> Option<Chosen<'a>>
-        ensures { IfSome result (λ chosen. Some (chosen_view chosen) ≡ chosen_of (column_of self.now first.now _second.now)) }
+        ensures { IfSome result (λ chosen. Some (chosen_view chosen) ≡
+            chosen_of (column_of self.now first.now _second.now)) }
     {
         if self.first && first.is_present() {
             Some(Chosen {
@@ -108,7 +113,8 @@ impl Held {
     )
         requires { is_alone ≡ true → (lane ≡ 0) × (self.old.second ≡ false) }
         ensures column { column_of self.new first.new second.new
-            ≡ with_cell lane (Some (record { block = B.view block.now; quality = quality })) (column_of self.old first.old second.old) }
+            ≡ with_cell lane (Some (record { block = B.view block.now; quality = quality }))
+            (column_of self.old first.old second.old) }
         ensures alone { lane ≡ 0 → self.new.second ≡ self.old.second }
     {
         if is_alone {
@@ -130,7 +136,8 @@ impl Held {
         quality: u8,
     )
         ensures column { column_of self.new first.new second.new
-            ≡ with_cell lane (Some (record { block = B.view block.now; quality = quality })) (column_of self.old first.old second.old) }
+            ≡ with_cell lane (Some (record { block = B.view block.now; quality = quality }))
+            (column_of self.old first.old second.old) }
         ensures alone { lane ≡ 0 → self.new.second ≡ self.old.second }
     {
         if lane == 0 {
@@ -153,7 +160,8 @@ impl Held {
     #[inline(always)]
     fn make_way<B: Offered>(&mut self, first: &Cell, second: &mut Cell, block: &B)
         ensures second { (cell : CellView) → cell.block ≡ B.view block.now
-            → kept self.new.second (second_of self.new cell second.new) ≡ kept self.old.second (second_of self.old first.now second.old) }
+            → kept self.new.second (second_of self.new cell second.new) ≡
+            kept self.old.second (second_of self.old first.now second.old) }
         ensures held { self.new.second ≡ self.old.second }
     {
         if self.second {
@@ -164,7 +172,11 @@ impl Held {
     /// The same where lane 1 holds a cell.
     #[inline(always)]
     fn meet<B: Offered>(&mut self, first: &Cell, second: &mut Cell, block: &B)
-        ensures held { self.new ≡ record self.old { alike = same_block (second_of self.old first.now second.old).block (B.view block.now) } }
+        ensures held { self.new
+            ≡ record self.old {
+              alike = same_block (second_of self.old first.now second.old).block
+                  (B.view block.now);
+            } }
         ensures second { second.new.block ≡ (second_of self.old first.now second.old).block }
     {
         if self.alike {
@@ -182,7 +194,8 @@ impl Held {
         other_first: &Cell,
         other_second: &Cell,
     )
-        ensures { column_of self.now first.new second.new ≡ column_of self.now other_first.now other_second.now }
+        ensures { column_of self.now first.new second.new ≡
+            column_of self.now other_first.now other_second.now }
     {
         if self.first || self.alike {
             first.copy_from(other_first);
@@ -213,7 +226,8 @@ impl Held {
         lane: usize,
         block: &B,
     ) -> bool
-        ensures { result ≡ holds_other (cell_in lane (column_of self.now first.now second.now)) (B.view block.now) }
+        ensures { result ≡ holds_other (cell_in lane (column_of self.now first.now second.now))
+            (B.view block.now) }
     {
         if lane == 0 {
             self.first && !first.holds(block)

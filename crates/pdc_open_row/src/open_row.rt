@@ -1,27 +1,23 @@
 //! The row of an instant that is open.
-ghost use Rattle.std.specs.Prelude.{◌≡◌, ℕ, ◌+◌, ◌<◌, ◌≤◌, ◌++◌, drop, length, map, take, false, Some, if◌then◌else◌};
-ghost use Rattle.std.specs.List.{All, list_any};
-ghost use Rattle.pdc_row.specs.CellView.{CellView, block_view};
+ghost use Rattle.std.specs.Prelude.{◌≡◌, ◌+◌, ◌<◌, ◌≤◌, length, map, Some, if◌then◌else◌};
+ghost use Rattle.pdc_row.specs.CellView.{block_view};
 ghost use Rattle.pdc_row.specs.RowView.{row_view};
-ghost use Rattle.pdc_row.specs.Quality.{quality_of, worst_of};
 ghost use Rattle.pdc_open_row.specs.Views.{at_age, blank_row, without_instant};
-ghost use Rattle.pdc_open_row.specs.Row.{blocks_of, qualities_of, row_of};
+ghost use Rattle.pdc_open_row.specs.Row.{row_of};
 ghost use Rattle.pdc_open_row.specs.Due.{all_taken, is_due};
-ghost use Rattle.pdc_open_row.specs.Taking.{answer_at, conflicts, is_taken, with_frame, without_column, without_stream};
+ghost use Rattle.pdc_open_row.specs.Taking.{HaveColumns, answer_at, conflicts, is_taken};
+ghost use Rattle.pdc_open_row.specs.Taking.{with_frame, without_column, without_stream};
 ghost use Rattle.pdc_open_row.specs.Chosen.{disagreements_of};
 ghost use Rattle.pdc_open_row.specs.Layout.{layout_view};
-ghost use Rattle.pdc_open_row.specs.OpenRowParts.{columns_of, worst_kept};
-ghost use Rattle.pdc_open_row.specs.declared.column.Held.{Held as HeldData};
+ghost use Rattle.pdc_open_row.specs.OpenRowParts.{blocks_after, worst_after};
 
 use crate::blocks::Blocks;
-use crate::column::{NOTHING, forget_all, forget_lane};
-use crate::columns::{chosen_at, copy_held, disagreements_at, first_at, nothings};
+use crate::columns::Columns;
 use crate::row_blocks::{WORST_QUALITY, Written, give, make_slot};
 use crate::streams::{all_taken, falses};
-use crate::{Held, MAX_COLUMNS, PutOutcome, RowLayout, WaitRule, copy_items};
+use crate::{MAX_COLUMNS, PutOutcome, RowLayout, WaitRule, copy_items};
 use arrayvec::ArrayVec;
-use pdc_row::{Block, Cell, CopyFrom, DueRow, Shape};
-use std::array;
+use pdc_row::{Block, CopyFrom, DueRow, Shape};
 use std::marker::Model;
 
 /// For how many streams and columns a row has a place.
@@ -39,20 +35,13 @@ pub struct OpenRow {
     has_second: bool,
     /// Which streams were taken.
     taken: ArrayVec<bool, MAX_COLUMNS>,
-    /// Which lanes of each column hold a cell: all that a row that begins writes, and all that most looks at it read.
-    held: ArrayVec<Held, MAX_COLUMNS>,
-    /// The cell of lane 0 of each column, where it is held.
-    first: [Cell; MAX_COLUMNS],
-    /// The cell of lane 1 of each column, where it is held: behind all of lane 0, since a table of one lane has none.
-    second: [Cell; MAX_COLUMNS],
+    columns: Columns,
 }
 
 impl Model for OpenRow {
-    ghost use Rattle.std.specs.Prelude.{◌≡◌, ◌≤◌, false, length};
-    ghost use Rattle.std.specs.List.{list_any};
-    ghost use Rattle.pdc_open_row.specs.OpenRowParts.{columns_of};
+    ghost use Rattle.std.specs.Prelude.{◌≡◌, false};
+    ghost use Rattle.pdc_open_row.specs.Taking.{any_second};
     ghost use Rattle.pdc_open_row.specs.Views.{OpenRowView};
-    ghost use Rattle.pdc_open_row.specs.declared.column.Held.{Held as HeldData};
 
     ghost Value = { OpenRowView };
 
@@ -60,14 +49,10 @@ impl Model for OpenRow {
       instant = row.instant;
       age = 0;
       taken = row.taken.items;
-      columns = columns_of row.held.items row.first row.second;
+      columns = row.columns;
     } };
 
-    ghost invariant = { λ row. record {
-      first : length row.held.items ≤ length row.first;
-      second : length row.held.items ≤ length row.second;
-      alone : row.has_second ≡ false → list_any (λ (h : HeldData). h.second) row.held.items ≡ false;
-    } };
+    ghost invariant = { λ row. row.has_second ≡ false → any_second row.columns ≡ false };
 }
 
 impl OpenRow {
@@ -81,9 +66,7 @@ impl OpenRow {
             instant,
             has_second: false,
             taken: falses(places.streams),
-            held: nothings(places.columns),
-            first: array::from_fn(|_| Cell::blank()),
-            second: array::from_fn(|_| Cell::blank()),
+            columns: Columns::blank(places.columns),
         }
     }
 
@@ -95,7 +78,7 @@ impl OpenRow {
         self.instant = instant;
         self.has_second = false;
         self.taken.as_mut_slice().fill(false);
-        forget_all(self.held.as_mut_slice());
+        self.columns.forget_all();
     }
 
     /// Makes this a row of no instant.
@@ -116,14 +99,12 @@ impl OpenRow {
     #[inline(always)]
     pub fn take<C: Blocks>(&mut self, stream: usize, lane: usize, blocks: &C, quality: u8)
         requires stream { stream < length self.old.taken }
-        requires columns { All (λ (cell : ℕ × CellView). cell.0 < length self.old.columns) (C.cells blocks.now quality) }
+        requires columns { HaveColumns (C.cells blocks.now quality) self.old.columns }
         ensures { self.new ≡ with_frame stream lane (C.cells blocks.now quality) self.old }
     {
         self.taken[stream] = true;
         blocks.put(
-            self.held.as_mut_slice(),
-            &mut self.first,
-            &mut self.second,
+            &mut self.columns,
             lane,
             quality,
             lane == 0 && !self.has_second,
@@ -143,9 +124,11 @@ impl OpenRow {
         quality: u8,
     ) -> PutOutcome
         requires stream { stream < length self.old.taken }
-        requires columns { All (λ (cell : ℕ × CellView). cell.0 < length self.old.columns) (C.cells blocks.now quality) }
-        ensures answer { result ≡ answer_at (Some self.old) stream lane (C.cells blocks.now quality) }
-        ensures row { self.new ≡ (if is_taken (answer_at (Some self.old) stream lane (C.cells blocks.now quality))
+        requires columns { HaveColumns (C.cells blocks.now quality) self.old.columns }
+        ensures answer { result ≡ answer_at (Some self.old) stream lane
+            (C.cells blocks.now quality) }
+        ensures row { self.new ≡ (if is_taken (answer_at (Some self.old) stream lane
+            (C.cells blocks.now quality))
             then with_frame stream lane (C.cells blocks.now quality) self.old else self.old) }
     {
         if self.taken[stream] {
@@ -161,16 +144,10 @@ impl OpenRow {
 
     /// Whether some of these blocks differs from what this lane of its column holds.
     pub(crate) fn conflicts<C: Blocks>(&self, lane: usize, blocks: &C, quality: u8) -> bool
-        requires { All (λ (cell : ℕ × CellView). cell.0 < length self.now.columns) (C.cells blocks.now quality) }
+        requires { HaveColumns (C.cells blocks.now quality) self.now.columns }
         ensures { result ≡ conflicts lane (C.cells blocks.now quality) self.now.columns }
     {
-        blocks.conflict(
-            self.held.as_slice(),
-            &self.first,
-            &self.second,
-            lane,
-            quality,
-        )
+        blocks.conflict(&self.columns, lane, quality)
     }
 
     /// Forgets what was taken of a stream: with one lane its own column, with two its lane of each column.
@@ -181,9 +158,9 @@ impl OpenRow {
     {
         self.taken[stream] = false;
         if lanes == 1 {
-            self.held[stream] = NOTHING;
+            self.columns.forget(stream);
         } else {
-            forget_lane(self.held.as_mut_slice(), stream);
+            self.columns.forget_lane(stream);
         }
     }
 
@@ -192,7 +169,7 @@ impl OpenRow {
         requires { column < length self.old.columns }
         ensures { self.new ≡ without_column column self.old }
     {
-        self.held[column] = NOTHING;
+        self.columns.forget(column);
     }
 
     /// Whether every required stream was taken.
@@ -219,13 +196,7 @@ impl OpenRow {
         }
         let mut count = 0;
         for (place, shape) in layout.shapes.as_slice().iter().enumerate() {
-            count += disagreements_at(
-                self.held.as_slice(),
-                &self.first,
-                &self.second,
-                place,
-                *shape,
-            );
+            count += self.columns.disagreements_at(place, *shape);
         }
         count
     }
@@ -268,14 +239,13 @@ impl OpenRow {
         ensures held { result.count ≤ length blocks.new }
         ensures few { result.count ≤ result.place }
         ensures len { length blocks.new ≡ length blocks.old }
-        ensures blocks { map block_view (take result.count blocks.new) ++ blocks_of (drop result.place shapes.now) (drop result.place self.now.columns)
-            ≡ map block_view (take from.count blocks.old) ++ blocks_of (drop from.place shapes.now) (drop from.place self.now.columns) }
-        ensures quality { worst_of (worst_kept result.above) (qualities_of (drop result.place shapes.now) (drop result.place self.now.columns))
-            ≡ worst_of (worst_kept from.above) (qualities_of (drop from.place shapes.now) (drop from.place self.now.columns)) }
+        ensures blocks { blocks_after result blocks.new shapes.now self.now.columns
+            ≡ blocks_after from blocks.old shapes.now self.now.columns }
+        ensures quality { worst_after result shapes.now self.now.columns ≡
+            worst_after from shapes.now self.now.columns }
         ensures fits { result.above ≤ WORST_QUALITY + 1 }
     {
-        let held = self.held.as_slice();
-        let columns = shapes.len().min(held.len()).min(MAX_COLUMNS);
+        let columns = shapes.len().min(self.columns.len()).min(MAX_COLUMNS);
         let left = columns
             .saturating_sub(from.place)
             .min(blocks.len() - from.count);
@@ -289,7 +259,7 @@ impl OpenRow {
                     above,
                 };
             };
-            let Some(chosen) = first_at(held, &self.first, &self.second, place) else {
+            let Some(chosen) = self.columns.first_at(place) else {
                 return Written {
                     place,
                     count,
@@ -322,10 +292,10 @@ impl OpenRow {
         ensures on { result.place ≡ from.place + 1 }
         ensures held { result.count ≤ length blocks.new.items }
         ensures few { result.count ≤ result.place }
-        ensures blocks { map block_view (take result.count blocks.new.items) ++ blocks_of (drop result.place shapes.now) (drop result.place self.now.columns)
-            ≡ map block_view (take from.count blocks.old.items) ++ blocks_of (drop from.place shapes.now) (drop from.place self.now.columns) }
-        ensures quality { worst_of (worst_kept result.above) (qualities_of (drop result.place shapes.now) (drop result.place self.now.columns))
-            ≡ worst_of (worst_kept from.above) (qualities_of (drop from.place shapes.now) (drop from.place self.now.columns)) }
+        ensures blocks { blocks_after result blocks.new.items shapes.now self.now.columns
+            ≡ blocks_after from blocks.old.items shapes.now self.now.columns }
+        ensures quality { worst_after result shapes.now self.now.columns ≡
+            worst_after from shapes.now self.now.columns }
         ensures fits { result.above ≤ WORST_QUALITY + 1 }
     {
         let Written {
@@ -341,7 +311,7 @@ impl OpenRow {
             };
         };
         make_slot(blocks, count);
-        let chosen = chosen_at(self.held.as_slice(), &self.first, &self.second, place);
+        let chosen = self.columns.chosen_at(place);
         let above = give(chosen, shape, blocks.as_mut_slice(), count, above);
         Written {
             place: place + 1,
@@ -353,7 +323,8 @@ impl OpenRow {
     /// Makes these the blocks of the row that it closes to, and answers its quality. Blocks that are there are written over, each in
     /// place.
     pub fn fill(&self, layout: &RowLayout, blocks: &mut ArrayVec<Block, MAX_COLUMNS>) -> u8
-        ensures blocks { map block_view blocks.new.items ≡ (row_of (layout_view layout.now) self.now).blocks }
+        ensures blocks { map block_view blocks.new.items ≡
+            (row_of (layout_view layout.now) self.now).blocks }
         ensures quality { result ≡ (row_of (layout_view layout.now) self.now).quality }
         ensures fits { result ≤ WORST_QUALITY }
         ensures few { length blocks.new.items ≤ MAX_COLUMNS }
@@ -380,18 +351,10 @@ impl OpenRow {
 }
 
 impl CopyFrom for OpenRow {
-    /// Of its cells those are copied that are held.
     fn copy_from(&mut self, other: &OpenRow) {
         self.instant = other.instant;
         self.has_second = other.has_second;
         copy_items(&mut self.taken, other.taken.as_slice());
-        copy_items(&mut self.held, other.held.as_slice());
-        copy_held(
-            other.held.as_slice(),
-            &mut self.first,
-            &mut self.second,
-            &other.first,
-            &other.second,
-        );
+        self.columns.copy_from(&other.columns);
     }
 }

@@ -1,18 +1,16 @@
 //! Blocks that lie one after the other in a payload, each with its column.
 ghost use Rattle.std.specs.Prelude.{◌≡◌, ◌<◌, ◌≤◌, ◌*◌, ◌+◌, ◌++◌, ℕ, false, length, take, true};
-ghost use Rattle.std.specs.List.{AllByRecursion, list_any};
+ghost use Rattle.std.specs.List.{AllByRecursion};
 ghost use Rattle.pdc_row.specs.CellView.{CellView};
 ghost use Rattle.pdc_row.specs.pdc_block.Block.{words_in};
 ghost use Rattle.pdc_row.specs.pdc_cfg.declared.shape.Shape.{Shape as ShapeData};
-ghost use Rattle.pdc_open_row.specs.OpenRowParts.{columns_of};
 ghost use Rattle.pdc_open_row.specs.Parts.{cut_cells, parts_len};
-ghost use Rattle.pdc_open_row.specs.Taking.{body_cells_of, conflicts, with_cells};
-ghost use Rattle.pdc_open_row.specs.declared.column.Held.{Held as HeldData};
+ghost use Rattle.pdc_open_row.specs.Taking.{any_second, body_cells_of, conflicts, with_cells};
 
+use crate::MAX_COLUMNS;
 use crate::blocks::Blocks;
-use crate::columns::{holds_other, put_one};
-use crate::{Held, MAX_COLUMNS};
-use pdc_row::{Body, Cell, Shape, words_are_cut};
+use crate::columns::Columns;
+use pdc_row::{Body, Shape, words_are_cut};
 
 /// What a block of a payload is: its column, and its shape.
 pub trait Part {
@@ -40,31 +38,15 @@ pub struct Cut<'a, P: Part> {
 }
 
 impl<P: Part> Blocks for Cut<'_, P> {
-    ghost cells = { λ cut quality. cut_cells P.column_of P.shape_of cut.parts.now quality (words_in cut.bytes.now) };
+    ghost cells = { λ cut quality. cut_cells P.column_of P.shape_of cut.parts.now quality
+        (words_in cut.bytes.now) };
 
-    fn put(
-        &self,
-        held: &mut [Held],
-        first: &mut [Cell],
-        second: &mut [Cell],
-        lane: usize,
-        quality: u8,
-        is_alone: bool,
-    ) {
-        put_parts(
-            self.parts, self.bytes, held, first, second, lane, quality, is_alone,
-        );
+    fn put(&self, columns: &mut Columns, lane: usize, quality: u8, is_alone: bool) {
+        put_parts(self.parts, self.bytes, columns, lane, quality, is_alone);
     }
 
-    fn conflict(
-        &self,
-        held: &[Held],
-        first: &[Cell],
-        second: &[Cell],
-        lane: usize,
-        quality: u8,
-    ) -> bool {
-        any_other_part(self.parts, self.bytes, held, first, second, lane, quality)
+    fn conflict(&self, columns: &Columns, lane: usize, quality: u8) -> bool {
+        any_other_part(self.parts, self.bytes, columns, lane, quality)
     }
 }
 
@@ -72,24 +54,17 @@ impl<P: Part> Blocks for Cut<'_, P> {
 fn put_parts<P: Part>(
     parts: &[P],
     bytes: &[u8],
-    held: &mut [Held],
-    first: &mut [Cell],
-    second: &mut [Cell],
+    columns: &mut Columns,
     lane: usize,
     quality: u8,
     is_alone: bool,
 )
     requires size { length bytes.now ≡ parts_len P.shape_of parts.now }
-    requires columns { AllByRecursion (λ (cell : ℕ × CellView). cell.0 < length held.old) (cut_cells P.column_of P.shape_of parts.now quality (words_in bytes.now)) }
-    requires first { length held.old ≤ length first.old }
-    requires second { length held.old ≤ length second.old }
-    requires alone { is_alone ≡ true → (lane ≡ 0) × (list_any (λ (h : HeldData). h.second) held.old ≡ false) }
-    ensures columns { columns_of held.new first.new second.new
-        ≡ with_cells lane (cut_cells P.column_of P.shape_of parts.now quality (words_in bytes.now)) (columns_of held.old first.old second.old) }
-    ensures held { length held.new ≡ length held.old }
-    ensures first { length first.new ≡ length first.old }
-    ensures second { length second.new ≡ length second.old }
-    ensures alone { lane ≡ 0 → list_any (λ (h : HeldData). h.second) held.new ≡ list_any (λ (h : HeldData). h.second) held.old }
+    requires columns { AllByRecursion (λ (cell : ℕ × CellView). cell.0 < length columns.old)
+        (cut_cells P.column_of P.shape_of parts.now quality (words_in bytes.now)) }
+    requires alone { is_alone ≡ true → (lane ≡ 0) × (any_second columns.old ≡ false) }
+    ensures { columns.new ≡ with_cells lane (cut_cells P.column_of P.shape_of parts.now quality
+        (words_in bytes.now)) columns.old }
 {
     words_are_cut();
     let Some((part, later)) = parts.split_first() else {
@@ -98,25 +73,23 @@ fn put_parts<P: Part>(
     let shape = part.shape();
     let (bytes, others) = bytes.split_at(2 * shape.word_count());
     let block = (part.column(), Body { shape, bytes });
-    put_one(held, first, second, lane, &block, quality, is_alone);
-    put_parts(later, others, held, first, second, lane, quality, is_alone)
+    columns.put_one(lane, &block, quality, is_alone);
+    put_parts(later, others, columns, lane, quality, is_alone)
 }
 
 /// Whether some block differs from what this lane of its column holds.
 fn any_other_part<P: Part>(
     parts: &[P],
     bytes: &[u8],
-    held: &[Held],
-    first: &[Cell],
-    second: &[Cell],
+    columns: &Columns,
     lane: usize,
     quality: u8,
 ) -> bool
     requires size { length bytes.now ≡ parts_len P.shape_of parts.now }
-    requires columns { AllByRecursion (λ (cell : ℕ × CellView). cell.0 < length held.now) (cut_cells P.column_of P.shape_of parts.now quality (words_in bytes.now)) }
-    requires first { length held.now ≤ length first.now }
-    requires second { length held.now ≤ length second.now }
-    ensures { result ≡ conflicts lane (cut_cells P.column_of P.shape_of parts.now quality (words_in bytes.now)) (columns_of held.now first.now second.now) }
+    requires columns { AllByRecursion (λ (cell : ℕ × CellView). cell.0 < length columns.now)
+        (cut_cells P.column_of P.shape_of parts.now quality (words_in bytes.now)) }
+    ensures { result ≡ conflicts lane (cut_cells P.column_of P.shape_of parts.now quality
+        (words_in bytes.now)) columns.now }
 {
     words_are_cut();
     let Some((part, later)) = parts.split_first() else {
@@ -125,8 +98,8 @@ fn any_other_part<P: Part>(
     let shape = part.shape();
     let (bytes, others) = bytes.split_at(2 * shape.word_count());
     let block = Body { shape, bytes };
-    holds_other(held, first, second, part.column(), lane, &block)
-        || any_other_part(later, others, held, first, second, lane, quality)
+    columns.holds_other(part.column(), lane, &block)
+        || any_other_part(later, others, columns, lane, quality)
 }
 
 /// Room for the blocks of a frame, each lent from the payload, with its column.
@@ -153,7 +126,8 @@ pub fn cut_bodies<'a, P: Part>(
     requires room { count + length parts.now ≤ length bodies.old }
     requires size { length bytes.now ≡ parts_len P.shape_of parts.now }
     ensures cells { (quality : ℕ) → body_cells_of (take result bodies.new) quality
-        ≡ body_cells_of (take count bodies.old) quality ++ cut_cells P.column_of P.shape_of parts.now quality (words_in bytes.now) }
+        ≡ body_cells_of (take count bodies.old) quality ++
+        cut_cells P.column_of P.shape_of parts.now quality (words_in bytes.now) }
     ensures len { length bodies.new ≡ length bodies.old }
     ensures grown { result ≤ length bodies.old }
 {

@@ -1,5 +1,6 @@
 //! The blocks of a row, and the worst quality of them, as the row is written column after column.
-ghost use Rattle.std.specs.Prelude.{◌≡◌, ℕ, ◌+◌, ◌<◌, ◌≤◌, ◌++◌, ◌∷◌, List, length, map, [], option_map, take, Some};
+ghost use Rattle.std.specs.Prelude.{◌≡◌, ℕ, ◌+◌, ◌<◌, ◌≤◌, ◌++◌, ◌∷◌, List, length, map, []};
+ghost use Rattle.std.specs.Prelude.{option_map, take, Some};
 ghost use Rattle.std.specs.Option.{option_to_list};
 ghost use Rattle.pdc_row.specs.CellView.{absent_view, block_view};
 ghost use Rattle.pdc_row.specs.Chosen.{block_or_absent};
@@ -59,7 +60,8 @@ pub fn give(
 ) -> u32
     requires room { count < length blocks.old }
     requires above { above ≤ WORST_QUALITY + 1 }
-    ensures blocks { map block_view (take (count + 1) blocks.new) ≡ map block_view (take count blocks.old)
+    ensures blocks { map block_view (take (count + 1) blocks.new) ≡
+        map block_view (take count blocks.old)
         ++ block_or_absent shape.now (option_map chosen_view chosen.entry) ∷ [] }
     ensures len { length blocks.new ≡ length blocks.old }
     ensures quality { (ns : List ℕ) → worst_of (worst_kept result) ns ≡ worst_of (worst_kept above)
@@ -83,7 +85,8 @@ pub fn give(
 fn worse(above: u32, quality: u8) -> u32
     requires above { above ≤ WORST_QUALITY + 1 }
     requires quality { quality ≤ WORST_QUALITY }
-    ensures value { (ns : List ℕ) → worst_of (worst_kept result) ns ≡ worst_of (worst_kept above) (quality ∷ ns) }
+    ensures value { (ns : List ℕ) →
+        worst_of (worst_kept result) ns ≡ worst_of (worst_kept above) (quality ∷ ns) }
     ensures fits { result ≤ WORST_QUALITY + 1 }
 {
     above.max(u32::from(quality) + 1)

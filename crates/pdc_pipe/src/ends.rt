@@ -37,7 +37,8 @@ pub struct Ends {
 pub fn channel(alloc: Global) -> Result<Ends, AllocError>
     ensures { IfOk result (λ ends. (receives_on ends.from ≡ sends_on ends.writer.to)
         × IsOpen ends.writer × (put_by ends.writer ≡ [])
-        × (IsSeatAt (receives_on ends.from) ends.reader × (view ends.reader ≡ log false true false [] []))) }
+        × (IsSeatAt (receives_on ends.from) ends.reader
+        × (view ends.reader ≡ log false true false [] []))) }
 {
     let (to, from, mut pass) = bounded_with::<Message, Log, InOrder, Global>(alloc, CAPACITY)?;
     let reader = to.another::<Roles>(&mut pass);
@@ -75,7 +76,9 @@ impl<'a, K: Sink> Promise<Sent<K>> for HandsOn<'a, K> {
     ghost use Rattle.pdc_pipe.specs.HandedOn.{HasHandedOn, HasSinkCause};
     ghost use Rattle.pdc_pipe.specs.Pipe.{log};
 
-    ghost kept_by = { λ p r. IsSeatAt (receives_on p.from.now) r.pass × (view r.pass ≡ log false true false [] (view r.pass).taken) × HasHandedOn (K.took p.sink.value r.sink) (view r.pass).taken r.ended
+    ghost kept_by = { λ p r. IsSeatAt (receives_on p.from.now) r.pass
+        × (view r.pass ≡ log false true false [] (view r.pass).taken)
+        × HasHandedOn (K.took p.sink.value r.sink) (view r.pass).taken r.ended
         × HasSinkCause r.ended (K.failures_of p.sink.value) (K.failures_of r.sink) };
 }
 
@@ -87,7 +90,9 @@ pub fn send_owned<K: Outlet, R: Wait>(
     sink: K,
 ) -> Sent<K>
     requires { IsSeatAt (receives_on from.now) pass × (view pass ≡ log false true false [] []) }
-    ensures { IsSeatAt (receives_on from.now) result.pass × (view result.pass ≡ log false true false [] (view result.pass).taken) × HasHandedOn (K.took sink result.sink) (view result.pass).taken result.ended
+    ensures { IsSeatAt (receives_on from.now) result.pass
+        × (view result.pass ≡ log false true false [] (view result.pass).taken)
+        × HasHandedOn (K.took sink result.sink) (view result.pass).taken result.ended
         × HasSinkCause result.ended (K.failures_of sink) (K.failures_of result.sink) }
 {
     let mut pass = pass;
@@ -101,7 +106,9 @@ pub fn send_owned<K: Outlet, R: Wait>(
 pub fn settle<K: Sink>(writer: Writer, sent: Sent<K>) -> (K, Ended)
     requires reader { IsSeatAt (sends_on writer.to) sent.pass × ((view sent.pass).takes ≡ true) }
     ensures back { (result.0 ≡ sent.sink) × (result.1 ≡ sent.ended) }
-    ensures handed { (before : K) → HasHandedOn (K.took before sent.sink) (view sent.pass).taken sent.ended → HasHandedOn (K.took before result.0) (put_by writer) result.1 }
+    ensures handed { (before : K) →
+        HasHandedOn (K.took before sent.sink) (view sent.pass).taken sent.ended →
+        HasHandedOn (K.took before result.0) (put_by writer) result.1 }
 {
     let Writer { to, pass: own } = writer;
     let mut own = own;

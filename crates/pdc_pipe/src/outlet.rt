@@ -15,9 +15,13 @@ pub trait Outlet: Sink {
     ///
     /// As [`Sink::send`].
     fn send_data(&mut self, frame: &Published) -> Result<(), SinkFault>
-        ensures ok { OnOk result ((before : Self) (given : List (List ℕ)) → Self.took before self.old given → Self.took before self.new (given ++ frame.now.bytes.items ∷ [])) }
-        ensures err { OnErr result ((before : Self) (given : List (List ℕ)) → Self.took before self.old given → Self.took before self.new given) }
-        ensures cause { OnErr result (HasRisen (Self.failures_of self.old) (Self.failures_of self.new)) }
+        ensures ok { OnOk result ((before : Self) (given : List (List ℕ)) →
+            Self.took before self.old given →
+            Self.took before self.new (given ++ frame.now.bytes.items ∷ [])) }
+        ensures err { OnErr result ((before : Self) (given : List (List ℕ)) →
+            Self.took before self.old given → Self.took before self.new given) }
+        ensures cause { OnErr result (HasRisen (Self.failures_of self.old)
+            (Self.failures_of self.new)) }
         ensures more { Self.failures_of self.old ≤ Self.failures_of self.new }
     {
         self.send(frame.bytes.as_slice())
@@ -29,9 +33,13 @@ pub trait Outlet: Sink {
     ///
     /// As [`Sink::send`].
     fn send_layout(&mut self, frame: &LayoutFrame) -> Result<(), SinkFault>
-        ensures ok { OnOk result ((before : Self) (given : List (List ℕ)) → Self.took before self.old given → Self.took before self.new (given ++ frame.now.bytes.items ∷ [])) }
-        ensures err { OnErr result ((before : Self) (given : List (List ℕ)) → Self.took before self.old given → Self.took before self.new given) }
-        ensures cause { OnErr result (HasRisen (Self.failures_of self.old) (Self.failures_of self.new)) }
+        ensures ok { OnOk result ((before : Self) (given : List (List ℕ)) →
+            Self.took before self.old given →
+            Self.took before self.new (given ++ frame.now.bytes.items ∷ [])) }
+        ensures err { OnErr result ((before : Self) (given : List (List ℕ)) →
+            Self.took before self.old given → Self.took before self.new given) }
+        ensures cause { OnErr result (HasRisen (Self.failures_of self.old)
+            (Self.failures_of self.new)) }
         ensures more { Self.failures_of self.old ≤ Self.failures_of self.new }
     {
         self.send(frame.bytes.as_slice())

@@ -132,8 +132,10 @@ pub fn take_next<R: Wait>(
     receiver: &Receiver,
     pass: &mut Pass<Message, Log>,
 ) -> Option<Message>
-    requires seat { IsSeatAt (receives_on receiver.now) pass.old × (view pass.old ≡ log false true false [] (view pass.old).taken) }
-    ensures seat { IsSeatAt (receives_on receiver.now) pass.new × (view pass.new ≡ log false true false [] (view pass.new).taken) }
+    requires seat { IsSeatAt (receives_on receiver.now) pass.old
+        × (view pass.old ≡ log false true false [] (view pass.old).taken) }
+    ensures seat { IsSeatAt (receives_on receiver.now) pass.new
+        × (view pass.new ≡ log false true false [] (view pass.new).taken) }
     ensures took { IfSome result (λ m. (view pass.new).taken ≡ (view pass.old).taken ++ m ∷ []) }
     ensures none { IfNone result ((view pass.new).taken ≡ (view pass.old).taken) }
 {

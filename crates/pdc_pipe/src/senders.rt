@@ -32,11 +32,17 @@ fn hand_on<K: Outlet, R: Wait>(
     pass: &mut Pass<Message, Log>,
     sink: &mut K,
 ) -> Ended
-    requires seat { IsSeatAt (receives_on receiver.now) pass.old × (view pass.old ≡ log false true false [] []) }
-    ensures seat { IsSeatAt (receives_on receiver.now) pass.new × (view pass.new ≡ log false true false [] (view pass.new).taken) }
-    ensures took { (given : List (List ℕ)) × (rest : List (List ℕ)) × K.took sink.old sink.new given × (bytes_of (view pass.new).taken ≡ given ++ rest) }
-    ensures whole { result ≡ Ended.AtEndMark → K.took sink.old sink.new (bytes_of (view pass.new).taken) × ((body : List Message) × ((view pass.new).taken ≡ body ++ End ∷ [])) }
-    ensures fault { result ≡ Ended.SinkFault → HasRisen (K.failures_of sink.old) (K.failures_of sink.new) }
+    requires seat { IsSeatAt (receives_on receiver.now) pass.old
+        × (view pass.old ≡ log false true false [] []) }
+    ensures seat { IsSeatAt (receives_on receiver.now) pass.new
+        × (view pass.new ≡ log false true false [] (view pass.new).taken) }
+    ensures took { (given : List (List ℕ)) × (rest : List (List ℕ))
+        × K.took sink.old sink.new given × (bytes_of (view pass.new).taken ≡ given ++ rest) }
+    ensures whole { result ≡ Ended.AtEndMark →
+        K.took sink.old sink.new (bytes_of (view pass.new).taken)
+        × ((body : List Message) × ((view pass.new).taken ≡ body ++ End ∷ [])) }
+    ensures fault { result ≡ Ended.SinkFault →
+        HasRisen (K.failures_of sink.old) (K.failures_of sink.new) }
 {
     for _ in rt.forever() {
         match take_next(rt, receiver, pass) {
@@ -59,8 +65,10 @@ fn hand_on<K: Outlet, R: Wait>(
 
 /// Takes up to the end mark, and hands nothing on.
 fn drain<R: Wait>(rt: &R, receiver: &Receiver, pass: &mut Pass<Message, Log>)
-    requires seat { IsSeatAt (receives_on receiver.now) pass.old × (view pass.old ≡ log false true false [] (view pass.old).taken) }
-    ensures seat { IsSeatAt (receives_on receiver.now) pass.new × (view pass.new ≡ log false true false [] (view pass.new).taken) }
+    requires seat { IsSeatAt (receives_on receiver.now) pass.old
+        × (view pass.old ≡ log false true false [] (view pass.old).taken) }
+    ensures seat { IsSeatAt (receives_on receiver.now) pass.new
+        × (view pass.new ≡ log false true false [] (view pass.new).taken) }
     ensures more { (rest : List Message) × ((view pass.new).taken ≡ (view pass.old).taken ++ rest) }
 {
     for _ in rt.forever() {
@@ -81,14 +89,20 @@ pub fn send_out<K: Outlet, R: Wait>(
     pass: &mut Pass<Message, Log>,
     sink: &mut K,
 ) -> Ended
-    requires seat { IsSeatAt (receives_on receiver.now) pass.old × (view pass.old ≡ log false true false [] []) }
-    ensures seat { IsSeatAt (receives_on receiver.now) pass.new × (view pass.new ≡ log false true false [] (view pass.new).taken) }
+    requires seat { IsSeatAt (receives_on receiver.now) pass.old
+        × (view pass.old ≡ log false true false [] []) }
+    ensures seat { IsSeatAt (receives_on receiver.now) pass.new
+        × (view pass.new ≡ log false true false [] (view pass.new).taken) }
     // What the sink took is a prefix of what was taken,
-    ensures took { (given : List (List ℕ)) × (rest : List (List ℕ)) × K.took sink.old sink.new given × (bytes_of (view pass.new).taken ≡ given ++ rest) }
+    ensures took { (given : List (List ℕ)) × (rest : List (List ℕ))
+        × K.took sink.old sink.new given × (bytes_of (view pass.new).taken ≡ given ++ rest) }
     // all of it, up to the end mark, where it ended there,
-    ensures whole { result ≡ Ended.AtEndMark → K.took sink.old sink.new (bytes_of (view pass.new).taken) × ((body : List Message) × ((view pass.new).taken ≡ body ++ End ∷ [])) }
+    ensures whole { result ≡ Ended.AtEndMark →
+        K.took sink.old sink.new (bytes_of (view pass.new).taken)
+        × ((body : List Message) × ((view pass.new).taken ≡ body ++ End ∷ [])) }
     // and the sink failed where it ended by that.
-    ensures fault { result ≡ Ended.SinkFault → HasRisen (K.failures_of sink.old) (K.failures_of sink.new) }
+    ensures fault { result ≡ Ended.SinkFault →
+        HasRisen (K.failures_of sink.old) (K.failures_of sink.new) }
 {
     let ended = hand_on(rt, receiver, pass, sink);
     if ended == Ended::SinkFault {

@@ -43,7 +43,8 @@ pub fn held_layout<'l, 'a>(life: &'l [Answered<'a>], stream: usize) -> Option<He
 
 /// Whether some section has the count of the one that is held of its column, or in force, and other bytes.
 pub fn has_count_conflict(given: &Given, life: &[Answered], sections: &[ColumnSection]) -> bool
-    ensures { result ≡ has_count_conflict (given_view given.now) (life_view life.now) (map section_part sections.now) }
+    ensures { result ≡ has_count_conflict (given_view given.now) (life_view life.now)
+        (map section_part sections.now) }
 {
     match sections.split_first() {
         Some((first, later)) => {

@@ -22,7 +22,8 @@ pub struct Life<'a> {
     /// Its steps with their answers, newest first.
     pub entries: Vec<Answered<'a>>,
     // Each row that a pop gave lies in a second that SOC can name,
-    pub ghost tagged: { All (λ n. n < SECONDS * given.output.rate) (row_instants (popped (life_view entries.items))) },
+    pub ghost tagged: { All (λ n. n < SECONDS * given.output.rate)
+        (row_instants (popped (life_view entries.items))) },
     // and the change number has 32 bits.
     pub ghost changes_fit: { changes (life_view entries.items) < 2 ^ 32 },
 }
@@ -34,7 +35,8 @@ impl Life<'_> {
     ///
     /// [`AllocError`] where there is no room and none is got.
     pub fn rows(&self, alloc: Global) -> Result<Vec<DueRow>, AllocError>
-        ensures { IfOk result (λ rows. map row_view rows.items ≡ closed (life_view self.now.entries.items)) }
+        ensures { IfOk result (λ rows. map row_view rows.items ≡
+            closed (life_view self.now.entries.items)) }
     {
         closed(alloc, &self.entries)
     }
@@ -45,14 +47,16 @@ impl Life<'_> {
     ///
     /// [`AllocError`] where there is no room and none is got.
     pub fn published(&self, alloc: Global) -> Result<Vec<Vec<u8>>, AllocError>
-        ensures { IfOk result (λ frames. map (λ frame. frame.items) frames.items ≡ published (given_view self.now.given) (life_view self.now.entries.items)) }
+        ensures { IfOk result (λ frames. map (λ frame. frame.items) frames.items ≡
+            published (given_view self.now.given) (life_view self.now.entries.items)) }
     {
         frames_of(alloc, &self.given, &self.entries)
     }
 
     /// The counts that wait: for each column the greater of its cleared count and its held one; 0 past the last column.
     pub fn waiting(&self) -> [u16; MAX_PMUS]
-        ensures { result ≡ waiting_counts (given_view self.now.given) (life_view self.now.entries.items) }
+        ensures { result ≡ waiting_counts (given_view self.now.given)
+            (life_view self.now.entries.items) }
     {
         waiting_counts(&self.given, &self.entries)
     }
@@ -64,7 +68,8 @@ impl Life<'_> {
     ///
     /// [`AllocError`] where there is no room and none is got; `out` is then unchanged.
     pub fn layout(&self, soc: u32, out: &mut Vec<u8>) -> Result<(), AllocError>
-        ensures ok { OnOk result (out.new.items ≡ out.old.items ++ layout_wire (given_view self.now.given) (life_view self.now.entries.items) soc) }
+        ensures ok { OnOk result (out.new.items ≡ out.old.items ++
+            layout_wire (given_view self.now.given) (life_view self.now.entries.items) soc) }
         ensures err { OnErr result (out.new.items ≡ out.old.items) }
     {
         append_layout_of(&self.given, &self.entries, soc, out)

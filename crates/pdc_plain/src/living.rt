@@ -5,7 +5,8 @@ ghost use Rattle.pdc_life.specs.Answer.{step_of};
 ghost use Rattle.pdc_life.specs.CoreKind.{IsLifeOf, OfMerger, OfNode};
 ghost use Rattle.pdc_life.specs.Run.{IsRun};
 ghost use Rattle.pdc_arrival.specs.declared.from_node.TheConstants.{NODES};
-ghost use Rattle.pdc_plain_steps.specs.Views.{IsForStream, entry_view, given_view, life_view, step_view};
+ghost use Rattle.pdc_plain_steps.specs.Views.{IsForStream, entry_view, given_view, life_view};
+ghost use Rattle.pdc_plain_steps.specs.Views.{step_view};
 ghost use Rattle.pdc_plain.specs.Views.{IsLifeFrom, given_to};
 
 use crate::life::Life;
@@ -38,7 +39,8 @@ fn node_step<'a>(
 ) -> Result<Answered<'a>, AllocError>
     requires life { IsLifeOf (OfNode settings.now) (given_view given.now) (life_view life.now) }
     requires step { IsForStream (length settings.now.pmus.items) (step_view step.now) }
-    ensures life { IfOk result (λ answered. IsLifeOf (OfNode settings.now) (given_view given.now) (entry_view answered ∷ life_view life.now)) }
+    ensures life { IfOk result (λ answered. IsLifeOf (OfNode settings.now) (given_view given.now)
+        (entry_view answered ∷ life_view life.now)) }
     ensures step { IfOk result (λ answered. step_of (entry_view answered) ≡ step_view step.now) }
 {
     lives_are_runs();
@@ -69,9 +71,12 @@ pub fn live_node<'a>(
     opening: &Opening,
     steps: &[LifeStep<'a>],
 ) -> Result<Life<'a>, AllocError>
-    requires { All (λ step. IsForStream (length settings.now.pmus.items) (step_view step)) steps.now }
-    ensures life { IfOk result (λ life. IsLifeFrom (OfNode settings.now) opening.now (map step_view steps.now) (life_view life.entries.items)) }
-    ensures given { IfOk result (λ life. given_view life.given ≡ given_to (OfNode settings.now) opening.now) }
+    requires { All (λ step. IsForStream (length settings.now.pmus.items) (step_view step))
+        steps.now }
+    ensures life { IfOk result (λ life. IsLifeFrom (OfNode settings.now) opening.now
+        (map step_view steps.now) (life_view life.entries.items)) }
+    ensures given { IfOk result (λ life. given_view life.given ≡
+        given_to (OfNode settings.now) opening.now) }
 {
     lives_are_runs();
     let given = given_to_node(settings, opening);
@@ -93,7 +98,8 @@ fn merger_step<'a>(
 ) -> Result<Answered<'a>, AllocError>
     requires life { IsLifeOf (OfMerger settings.now) (given_view given.now) (life_view life.now) }
     requires step { IsForStream NODES (step_view step.now) }
-    ensures life { IfOk result (λ answered. IsLifeOf (OfMerger settings.now) (given_view given.now) (entry_view answered ∷ life_view life.now)) }
+    ensures life { IfOk result (λ answered. IsLifeOf (OfMerger settings.now) (given_view given.now)
+        (entry_view answered ∷ life_view life.now)) }
     ensures step { IfOk result (λ answered. step_of (entry_view answered) ≡ step_view step.now) }
 {
     lives_are_runs();
@@ -125,8 +131,10 @@ pub fn live_merger<'a>(
     steps: &[LifeStep<'a>],
 ) -> Result<Life<'a>, AllocError>
     requires { All (λ step. IsForStream NODES (step_view step)) steps.now }
-    ensures life { IfOk result (λ life. IsLifeFrom (OfMerger settings.now) opening.now (map step_view steps.now) (life_view life.entries.items)) }
-    ensures given { IfOk result (λ life. given_view life.given ≡ given_to (OfMerger settings.now) opening.now) }
+    ensures life { IfOk result (λ life. IsLifeFrom (OfMerger settings.now) opening.now
+        (map step_view steps.now) (life_view life.entries.items)) }
+    ensures given { IfOk result (λ life. given_view life.given ≡
+        given_to (OfMerger settings.now) opening.now) }
 {
     lives_are_runs();
     let given = given_to_merger(settings, opening);

@@ -1,12 +1,15 @@
 //! What the merger answers to an arrival, asked of the whole list. A life is kept newest first.
-ghost use Rattle.std.specs.Prelude.{◌≡◌, ◌≤◌, ◌*◌, ◌++◌, [], ◌∷◌, ℕ, IfOk, OnOk, if◌then◌else◌, length, map, option_map, sum};
+ghost use Rattle.std.specs.Prelude.{◌≡◌, ◌≤◌, ◌*◌, ◌++◌, [], ◌∷◌, ℕ, IfOk, OnOk, if◌then◌else◌};
+ghost use Rattle.std.specs.Prelude.{length, map, option_map, sum};
 ghost use Rattle.std.specs.Option.{option_to_list};
 ghost use Rattle.pdc_block.specs.Block.{words_in};
 ghost use Rattle.pdc_cfg.specs.Section.{SectionFields, fields_of_view};
 ghost use Rattle.pdc_cfg.specs.Shape.{word_count_of};
 ghost use Rattle.pdc_cfg.specs.declared.shape.TheConstants.{MAX_WORDS};
 ghost use Rattle.pdc_life.specs.pdc_row.declared.limits.TheConstants.{MAX_PMUS};
-ghost use Rattle.pdc_life.specs.Merger.{has_count_conflict, held_layout, is_in_force, layout_answer, merged_answer, merged_cells, merged_data_answer};
+ghost use Rattle.pdc_life.specs.Merger.{has_count_conflict, held_layout, is_in_force};
+ghost use Rattle.pdc_life.specs.Merger.{layout_answer, merged_answer, merged_cells};
+ghost use Rattle.pdc_life.specs.Merger.{merged_data_answer};
 ghost use Rattle.pdc_life.specs.Node.{cell_under};
 ghost use Rattle.pdc_arrival.specs.Views.{arrival_view, section_part, stamp_view};
 ghost use Rattle.pdc_arrival.specs.Stamps.{stamp_of};
@@ -37,7 +40,9 @@ pub fn merged_answer(
     stream: usize,
     arrival: &Arrival,
 ) -> Result<Answer, AllocError>
-    ensures { IfOk result (λ answer. answer_view answer ≡ merged_answer (given_view given.now) (life_view life.now) stream (arrival_view arrival.now)) }
+    ensures { IfOk result (λ answer. answer_view answer ≡
+        merged_answer (given_view given.now) (life_view life.now) stream
+        (arrival_view arrival.now)) }
 {
     match arrival {
         Arrival::BytesRefused(refusal) => Ok(bare(alloc, Outcome::Refused(*refusal))),
@@ -71,7 +76,8 @@ fn layout_outcome(
     sections: &[ColumnSection],
 ) -> Outcome
     ensures { result ≡ layout_answer (held_layout (life_view life.now) stream) (stamp_view stamp)
-        (has_count_conflict (given_view given.now) (life_view life.now) (map section_part sections.now)) }
+        (has_count_conflict (given_view given.now) (life_view life.now)
+        (map section_part sections.now)) }
 {
     let conflicts = has_count_conflict(given, life, sections);
     layout_answer(stamp_of(held_layout(life, stream)), stamp, conflicts)
@@ -79,7 +85,8 @@ fn layout_outcome(
 
 /// The stamp of the layout.
 fn stamp_of(layout: Option<HeldLayout>) -> Option<Stamp>
-    ensures { option_map stamp_view result ≡ option_map stamp_of (option_map layout_view layout.entry) }
+    ensures { option_map stamp_view result ≡
+        option_map stamp_of (option_map layout_view layout.entry) }
 {
     match layout {
         Some(layout) => Some(layout.stamp),
@@ -97,7 +104,8 @@ fn data_answer(
     payload: &[u8],
 ) -> Result<Answer, AllocError>
     ensures { IfOk result (λ answer. answer_view answer
-        ≡ merged_data_answer (given_view given.now) (life_view life.now) stream tag.instant tag.quality payload.now (held_layout (life_view life.now) stream)) }
+        ≡ merged_data_answer (given_view given.now) (life_view life.now) stream tag.instant
+        tag.quality payload.now (held_layout (life_view life.now) stream)) }
 {
     words_are_cut();
     let Some(layout) = held_layout(life, stream) else {
@@ -120,7 +128,8 @@ fn data_answer(
 /// The bytes of the blocks of these sections.
 fn blocks_len(sections: &[ColumnSection]) -> usize
     requires { length sections.now ≤ MAX_PMUS }
-    ensures value { result ≡ sum (map (λ (part : ℕ × SectionFields). 2 * word_count_of part.1.shape) (map section_part sections.now)) }
+    ensures value { result ≡ sum (map (λ (part : ℕ × SectionFields). 2 * word_count_of
+        part.1.shape) (map section_part sections.now)) }
     ensures most { result ≤ 2 * MAX_WORDS * length sections.now }
 {
     match sections.split_first() {
@@ -131,7 +140,8 @@ fn blocks_len(sections: &[ColumnSection]) -> usize
 
 /// Whether the section has the count in force of its column.
 fn is_in_force(section: &SectionView, in_force: Option<SectionView>) -> bool
-    ensures { result ≡ is_in_force (fields_of_view section.now) (option_map fields_of_view in_force.entry) }
+    ensures { result ≡ is_in_force (fields_of_view section.now)
+        (option_map fields_of_view in_force.entry) }
 {
     match in_force {
         Some(in_force) => section.count == in_force.count,
@@ -148,9 +158,11 @@ fn cells_under(
     sections: &[ColumnSection],
     blocks: &[u8],
 ) -> Result<Vec<ColumnCell>, AllocError>
-    requires { length blocks.now ≡ sum (map (λ (part : ℕ × SectionFields). 2 * word_count_of part.1.shape) (map section_part sections.now)) }
+    requires { length blocks.now ≡ sum (map (λ (part : ℕ × SectionFields). 2 * word_count_of
+        part.1.shape) (map section_part sections.now)) }
     ensures { IfOk result (λ cells. map part_view cells.items
-        ≡ merged_cells (given_view given.now) (life_view life.now) quality (map section_part sections.now) (words_in blocks.now)) }
+        ≡ merged_cells (given_view given.now) (life_view life.now) quality
+        (map section_part sections.now) (words_in blocks.now)) }
 {
     words_are_cut();
     let Some((first, later)) = sections.split_first() else {
@@ -165,7 +177,8 @@ fn cells_under(
 
 /// Puts the cell before the others, if there is one.
 fn put_first(cell: Option<ColumnCell>, cells: &mut Vec<ColumnCell>) -> Result<(), AllocError>
-    ensures { OnOk result (map part_view cells.new.items ≡ option_to_list (option_map part_view cell) ++ map part_view cells.old.items) }
+    ensures { OnOk result (map part_view cells.new.items ≡
+        option_to_list (option_map part_view cell) ++ map part_view cells.old.items) }
 {
     if let Some(cell) = cell {
         cells.insert(0, cell)?;
@@ -182,8 +195,13 @@ fn cell_in_force(
 ) -> Option<ColumnCell>
     requires { length bytes.now ≡ 2 * word_count_of part.now.section.shape }
     ensures { option_to_list (option_map part_view result)
-        ≡ (if is_in_force (fields_of_view part.now.section) (option_map fields_of_view in_force.entry)
-        then (part.now.column, cell_under (fields_of_view part.now.section) quality (words_in bytes.now)) ∷ [] else []) }
+        ≡ (if is_in_force (fields_of_view part.now.section)
+        (option_map fields_of_view in_force.entry)
+        then (
+          part.now.column,
+          cell_under (fields_of_view part.now.section) quality
+              (words_in bytes.now),
+        ) ∷ [] else []) }
 {
     if is_in_force(&part.section, in_force) {
         Some(cell_under(part, quality, bytes))
@@ -195,7 +213,11 @@ fn cell_in_force(
 /// The cell that a block gives under its section.
 fn cell_under(part: &ColumnSection, quality: u8, bytes: &[u8]) -> ColumnCell
     requires { length bytes.now ≡ 2 * word_count_of part.now.section.shape }
-    ensures { part_view result ≡ (part.now.column, cell_under (fields_of_view part.now.section) quality (words_in bytes.now)) }
+    ensures { part_view result ≡ (
+      part.now.column,
+      cell_under (fields_of_view part.now.section)
+          quality (words_in bytes.now),
+    ) }
 {
     ColumnCell {
         column: part.column,

@@ -28,7 +28,8 @@ pub fn node_answer(
     stream: usize,
     arrival: &Arrival,
 ) -> Result<Answer, AllocError>
-    ensures { IfOk result (λ answer. answer_view answer ≡ node_answer (given_view given.now) (life_view life.now) stream (arrival_view arrival.now)) }
+    ensures { IfOk result (λ answer. answer_view answer ≡
+        node_answer (given_view given.now) (life_view life.now) stream (arrival_view arrival.now)) }
 {
     match arrival {
         Arrival::BytesRefused(refusal) => Ok(bare(alloc, Outcome::Refused(*refusal))),
@@ -56,7 +57,9 @@ fn layout_outcome(
     stream: usize,
     sections: &[ColumnSection],
 ) -> Outcome
-    ensures { (stamp : Option Stamp) → bare result ≡ node_answer (given_view given.now) (life_view life.now) stream (Layout stamp (map section_part sections.now)) }
+    ensures { (stamp : Option Stamp) →
+        bare result ≡ node_answer (given_view given.now) (life_view life.now) stream
+        (Layout stamp (map section_part sections.now)) }
 {
     match sections {
         [only] => {
@@ -77,7 +80,8 @@ fn data_answer(
     payload: &[u8],
 ) -> Result<Answer, AllocError>
     ensures { IfOk result (λ answer. answer_view answer
-        ≡ data_answer (given_view given.now) (life_view life.now) stream tag.instant tag.quality payload.now (section_in_force (given_view given.now) (life_view life.now) stream)) }
+        ≡ data_answer (given_view given.now) (life_view life.now) stream tag.instant tag.quality
+        payload.now (section_in_force (given_view given.now) (life_view life.now) stream)) }
 {
     let Some(section) = section_in_force(given, life, stream) else {
         return Ok(bare(alloc, Outcome::Refused(Refusal::NoConfig)));

@@ -58,8 +58,10 @@ pub fn frames_of(
     given: &Given,
     life: &[Answered],
 ) -> Result<Vec<Vec<u8>>, AllocError>
-    requires { All (λ n. n < SECONDS * given.now.output.rate) (row_instants (popped (life_view life.now))) }
-    ensures { IfOk result (λ frames. map (λ frame. frame.items) frames.items ≡ published (given_view given.now) (life_view life.now)) }
+    requires { All (λ n. n < SECONDS * given.now.output.rate)
+        (row_instants (popped (life_view life.now))) }
+    ensures { IfOk result (λ frames. map (λ frame. frame.items) frames.items ≡
+        published (given_view given.now) (life_view life.now)) }
 {
     let rows = popped(alloc, life)?;
     frames(alloc, &given.output, &rows)
@@ -77,7 +79,8 @@ pub fn append_layout_of(
     out: &mut Vec<u8>,
 ) -> Result<(), AllocError>
     requires { changes (life_view life.now) < 2 ^ 32 }
-    ensures ok { OnOk result (out.new.items ≡ out.old.items ++ layout_wire (given_view given.now) (life_view life.now) soc) }
+    ensures ok { OnOk result (out.new.items ≡ out.old.items ++
+        layout_wire (given_view given.now) (life_view life.now) soc) }
     ensures err { OnErr result (out.new.items ≡ out.old.items) }
 {
     let sections = sections_in_force(given, life);
@@ -95,7 +98,8 @@ pub fn append_layout_of(
 /// The frames of the rows, in their order.
 fn frames(alloc: Global, output: &Output, rows: &[DueRow]) -> Result<Vec<Vec<u8>>, AllocError>
     requires { All (λ row. row.instant < SECONDS * output.now.rate) rows.now }
-    ensures { IfOk result (λ frames. map (λ frame. frame.items) frames.items ≡ map (λ row. wire_of output.now (row_view row)) rows.now) }
+    ensures { IfOk result (λ frames. map (λ frame. frame.items) frames.items ≡
+        map (λ row. wire_of output.now (row_view row)) rows.now) }
 {
     let mut frames = Vec::new(alloc);
     for row in rows {

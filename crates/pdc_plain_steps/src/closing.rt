@@ -38,7 +38,8 @@ fn stream_count(given: &Given) -> usize
 /// Whether the instant waits for no stream any more.
 #[tactic(auto, using(crate::proofs::Ranges::all_step))]
 fn have_all_come(given: &Given, life: &[Answered], instant: u64) -> bool
-    ensures { result ≡ list_all (is_not_awaited (given_view given.now) (life_view life.now) instant) (streams_of (given_view given.now)) }
+    ensures { result ≡ list_all (is_not_awaited (given_view given.now) (life_view life.now)
+        instant) (streams_of (given_view given.now)) }
 {
     let streams = stream_count(given);
     for stream in 0..streams {
@@ -75,7 +76,8 @@ fn are_due_up_to(
     open_instants: &[u64],
     instant: u64,
 ) -> bool
-    ensures { result ≡ list_all (λ j. not (nat_le j instant) || is_due (given_view given.now) (life_view life.now) now j) open_instants.now }
+    ensures { result ≡ list_all (λ j. not (nat_le j instant) || is_due (given_view given.now)
+        (life_view life.now) now j) open_instants.now }
 {
     for lower in open_instants {
         if *lower <= instant && !is_due(given, life, now, *lower) {
@@ -96,7 +98,8 @@ pub fn closing(
     life: &[Answered],
     now: u64,
 ) -> Result<Vec<u64>, AllocError>
-    ensures { IfOk result (λ instants. instants.items ≡ closing (given_view given.now) (life_view life.now) now) }
+    ensures { IfOk result (λ instants. instants.items ≡
+        closing (given_view given.now) (life_view life.now) now) }
 {
     let open_instants = open_instants(alloc, given, life)?;
     closing_among(alloc, given, life, now, &open_instants)
@@ -111,7 +114,8 @@ fn closing_among(
     open_instants: &[u64],
 ) -> Result<Vec<u64>, AllocError>
     ensures { IfOk result (λ instants. instants.items
-        ≡ filter (λ i. list_all (λ j. not (nat_le j i) || is_due (given_view given.now) (life_view life.now) now j) open_instants.now) open_instants.now) }
+        ≡ filter (λ i. list_all (λ j. not (nat_le j i) || is_due (given_view given.now)
+        (life_view life.now) now j) open_instants.now) open_instants.now) }
 {
     let mut closing = Vec::new(alloc);
     for instant in open_instants {

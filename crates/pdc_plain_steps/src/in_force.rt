@@ -18,7 +18,8 @@ pub fn sections_in_force<'a>(
     given: &Given,
     life: &[Answered<'a>],
 ) -> ArrayVec<SectionView<'a>, MAX_PMUS>
-    ensures sections { map fields_of_view result.items ≡ sections_in_force (given_view given.now) (life_view life.now) }
+    ensures sections { map fields_of_view result.items ≡
+        sections_in_force (given_view given.now) (life_view life.now) }
     ensures few { length result.items ≤ MAX_PMUS }
 {
     let mut sections = ArrayVec::new();
@@ -35,7 +36,8 @@ fn push_some<'a>(
 )
     requires { length sections.old.items < MAX_PMUS }
     ensures sections { map fields_of_view sections.new.items
-        ≡ map fields_of_view sections.old.items ++ option_to_list (option_map fields_of_view section.entry) }
+        ≡ map fields_of_view sections.old.items ++
+        option_to_list (option_map fields_of_view section.entry) }
     ensures grown { length sections.new.items ≤ length sections.old.items + 1 }
 {
     if let Some(section) = section {

@@ -3,9 +3,11 @@ ghost use Rattle.std.specs.Prelude.{◌≡◌, ◌+◌, ℕ, IfOk, map, nat_lt, 
 ghost use Rattle.std.specs.List.{list_any};
 ghost use Rattle.pdc_row.specs.CellView.{block_view, same_block};
 ghost use Rattle.pdc_row.specs.CellView.{CellView};
-ghost use Rattle.pdc_life.specs.Answer.{again_answer, answer_in_time, bare, is_other, outcome_in_time};
+ghost use Rattle.pdc_life.specs.Answer.{again_answer, answer_in_time, bare, is_other};
+ghost use Rattle.pdc_life.specs.Answer.{outcome_in_time};
 ghost use Rattle.pdc_life.specs.Life.{cell_of};
-ghost use Rattle.pdc_plain_steps.specs.Views.{answer_view, cell_at, given_view, life_view, part_view, take_view};
+ghost use Rattle.pdc_plain_steps.specs.Views.{answer_view, cell_at, given_view, life_view};
+ghost use Rattle.pdc_plain_steps.specs.Views.{part_view, take_view};
 
 use crate::given::Given;
 use crate::instants::is_near_held;
@@ -35,7 +37,8 @@ fn is_same_block(first: &Block, second: &Block) -> bool
 
 /// Whether the cell is there and has another block than the one that is given.
 fn is_other(held: Option<&ColumnCell>, cell: &ColumnCell) -> bool
-    ensures { result ≡ is_other (option_map (λ cell. cell_at cell.now) held.entry) (cell_at cell.now) }
+    ensures { result ≡ is_other (option_map (λ cell. cell_at cell.now) held.entry)
+        (cell_at cell.now) }
 {
     match held {
         Some(held) => !is_same_block(&held.block, &cell.block),
@@ -45,7 +48,8 @@ fn is_other(held: Option<&ColumnCell>, cell: &ColumnCell) -> bool
 
 /// Whether some of these cells has another block than the one that is there.
 fn conflicts(life: &[Answered], stream: usize, instant: u64, cells: &[ColumnCell]) -> bool
-    ensures { result ≡ list_any (λ (part : ℕ × CellView). is_other (cell_of (life_view life.now) stream part.0 instant) part.1) (map part_view cells.now) }
+    ensures { result ≡ list_any (λ (part : ℕ × CellView). is_other
+        (cell_of (life_view life.now) stream part.0 instant) part.1) (map part_view cells.now) }
 {
     for cell in cells {
         if is_other(cell_of(life, stream, cell.column, instant), cell) {
@@ -84,7 +88,9 @@ fn outcome_in_time(
     instant: u64,
     cells: &[ColumnCell],
 ) -> Result<Outcome, AllocError>
-    ensures { IfOk result (λ outcome. outcome ≡ outcome_in_time (given_view given.now) (life_view life.now) stream instant (map part_view cells.now)) }
+    ensures { IfOk result (λ outcome. outcome ≡
+        outcome_in_time (given_view given.now) (life_view life.now) stream instant
+        (map part_view cells.now)) }
 {
     if instant <= last_of(given, life) {
         return Ok(Outcome::Refused(Refusal::Late));
@@ -112,7 +118,9 @@ pub fn answer_in_time(
     instant: u64,
     cells: Vec<ColumnCell>,
 ) -> Result<Answer, AllocError>
-    ensures { IfOk result (λ answer. answer_view answer ≡ answer_in_time (given_view given.now) (life_view life.now) stream instant (map part_view cells.items)) }
+    ensures { IfOk result (λ answer. answer_view answer ≡
+        answer_in_time (given_view given.now) (life_view life.now) stream instant
+        (map part_view cells.items)) }
 {
     let outcome = outcome_in_time(alloc, given, life, stream, instant, &cells)?;
     match outcome {

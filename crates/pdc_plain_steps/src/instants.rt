@@ -23,14 +23,17 @@ pub fn open_instants(
     given: &Given,
     life: &[Answered],
 ) -> Result<Vec<u64>, AllocError>
-    ensures { IfOk result (λ instants. instants.items ≡ open_instants (given_view given.now) (life_view life.now)) }
+    ensures { IfOk result (λ instants. instants.items ≡
+        open_instants (given_view given.now) (life_view life.now)) }
 {
     taken_above(alloc, life, last_of(given, life))
 }
 
 /// The instants above this one for which something was taken, in rising order.
 fn taken_above(alloc: Global, life: &[Answered], low: u64) -> Result<Vec<u64>, AllocError>
-    ensures { IfOk result (λ instants. instants.items ≡ rising (filter (λ i. nat_lt low i) (map (λ (take : Take). take.instant) (takes (life_view life.now))))) }
+    ensures { IfOk result (λ instants. instants.items ≡
+        rising (filter (λ i. nat_lt low i) (map (λ (take : Take). take.instant)
+        (takes (life_view life.now))))) }
 {
     let Some((newest, earlier)) = life.split_first() else {
         return Ok(Vec::new(alloc));
@@ -91,7 +94,8 @@ pub fn waiting(alloc: Global, life: &[Answered]) -> Result<Vec<DueRow>, AllocErr
 ///
 /// [`AllocError`] where there is no room and none is got.
 pub fn append(more: &[DueRow], rows: &mut Vec<DueRow>) -> Result<(), AllocError>
-    ensures { OnOk result (map row_view rows.new.items ≡ map row_view rows.old.items ++ map row_view more.now) }
+    ensures { OnOk result (map row_view rows.new.items ≡ map row_view rows.old.items ++
+        map row_view more.now) }
 {
     for row in more {
         rows.push(row.clone()?)?;
@@ -110,7 +114,9 @@ pub fn is_near_held(
     life: &[Answered],
     instant: u64,
 ) -> Result<bool, AllocError>
-    ensures { IfOk result (λ near. near ≡ list_all (is_near given.now.window instant) (held_instants (given_view given.now) (life_view life.now))) }
+    ensures { IfOk result (λ near. near ≡
+        list_all (is_near given.now.window instant)
+        (held_instants (given_view given.now) (life_view life.now))) }
 {
     let window = given.window;
     let open = open_instants(alloc, given, life)?;

@@ -1,10 +1,13 @@
 //! What the steps so far say, each question asked of the whole list. A life is kept newest first.
-ghost use Rattle.std.specs.Prelude.{◌≡◌, ◌≤◌, ◌<◌, ◌+◌, ◌==◌, ◌++◌, ℕ, List, filter, length, map, nat_le, option_map};
+ghost use Rattle.std.specs.Prelude.{◌≡◌, ◌≤◌, ◌<◌, ◌+◌, ◌==◌, ◌++◌, ℕ, List, filter, length, map};
+ghost use Rattle.std.specs.Prelude.{nat_le, option_map};
 ghost use Rattle.std.specs.List.{list_any};
 ghost use Rattle.pdc_cfg.specs.Section.{SectionFields, fields_of_view};
 ghost use Rattle.pdc_row.specs.Quality.{greatest};
 ghost use Rattle.pdc_row.specs.RowView.{row_instants, row_view};
-ghost use Rattle.pdc_life.specs.Life.{changes, cleared_count, first_greatest, greater, held_section, is_adoption, is_adoption_of, is_of_column, last_of, now_of, section_in_force, sections_at};
+ghost use Rattle.pdc_life.specs.Life.{changes, cleared_count, first_greatest, greater};
+ghost use Rattle.pdc_life.specs.Life.{held_section, is_adoption, is_adoption_of, is_of_column};
+ghost use Rattle.pdc_life.specs.Life.{last_of, now_of, section_in_force, sections_at};
 ghost use Rattle.pdc_life.specs.Run.{IsTicked};
 ghost use Rattle.pdc_arrival.specs.Views.{section_part};
 ghost use Rattle.pdc_plain_steps.specs.Views.{entry_view, given_view, life_view};
@@ -70,7 +73,8 @@ pub fn held_section<'a>(
     life: &[Answered<'a>],
     column: usize,
 ) -> Option<SectionView<'a>>
-    ensures { option_map fields_of_view result ≡ held_section (given_view given.now) (life_view life.now) column }
+    ensures { option_map fields_of_view result ≡
+        held_section (given_view given.now) (life_view life.now) column }
 {
     let (newest, earlier) = life.split_first()?;
     let held = held_section(given, earlier, column);
@@ -80,7 +84,9 @@ pub fn held_section<'a>(
 
 /// The sections that a step brought in a layout that was accepted, each beside its column.
 fn accepted_sections<'l, 'a>(step: &'l Answered<'a>) -> &'l [ColumnSection<'a>]
-    ensures { (c : ℕ) → sections_at c (entry_view step.now) ≡ map (λ (part : ℕ × SectionFields). part.1) (filter (is_of_column c) (map section_part result.now)) }
+    ensures { (c : ℕ) → sections_at c (entry_view step.now) ≡ map
+        (λ (part : ℕ × SectionFields). part.1) (filter (is_of_column c)
+        (map section_part result.now)) }
 {
     match step {
         Answered::Arrival {
@@ -102,8 +108,12 @@ fn greatest_section<'a>(
     opening: u16,
     held: Option<SectionView<'a>>,
 ) -> Option<SectionView<'a>>
-    ensures { (earlier : List SectionFields) → option_map fields_of_view held.entry ≡ first_greatest earlier → option_map fields_of_view result
-        ≡ first_greatest (filter (λ (s : SectionFields). nat_le opening s.count) (map (λ (part : ℕ × SectionFields). part.1) (filter (is_of_column column) (map section_part sections.now))) ++ earlier) }
+    ensures { (earlier : List SectionFields) →
+        option_map fields_of_view held.entry ≡ first_greatest earlier →
+        option_map fields_of_view result
+        ≡ first_greatest (filter (λ (s : SectionFields). nat_le opening s.count) (map (λ (part : ℕ
+        × SectionFields). part.1) (filter (is_of_column column) (map section_part sections.now))) ++
+        earlier) }
 {
     let Some((first, later)) = sections.split_first() else {
         return held;
@@ -118,7 +128,8 @@ fn greatest_section<'a>(
 
 /// Of two sections the one of the greater count, and of one count the first.
 fn greater<'a>(held: Option<SectionView<'a>>, section: SectionView<'a>) -> SectionView<'a>
-    ensures { Some (fields_of_view result) ≡ greater (option_map fields_of_view held.entry) (fields_of_view section.entry) }
+    ensures { Some (fields_of_view result) ≡
+        greater (option_map fields_of_view held.entry) (fields_of_view section.entry) }
 {
     match held {
         Some(held) => {
@@ -160,7 +171,8 @@ pub fn section_in_force<'a>(
     life: &[Answered<'a>],
     column: usize,
 ) -> Option<SectionView<'a>>
-    ensures { option_map fields_of_view result ≡ section_in_force (given_view given.now) (life_view life.now) column }
+    ensures { option_map fields_of_view result ≡
+        section_in_force (given_view given.now) (life_view life.now) column }
 {
     let (newest, earlier) = life.split_first()?;
     if is_adoption_of(newest, column) {

@@ -1,5 +1,6 @@
 //! The rows that instants close to, asked of the whole list. A life is kept newest first.
-ghost use Rattle.std.specs.Prelude.{◌≡◌, ◌<◌, ◌≤◌, ◌+◌, ◌++◌, ℕ, List, IfOk, IfSome, length, map, option_map};
+ghost use Rattle.std.specs.Prelude.{◌≡◌, ◌<◌, ◌≤◌, ◌+◌, ◌++◌, ℕ, List, IfOk, IfSome, length, map};
+ghost use Rattle.std.specs.Prelude.{option_map};
 ghost use Rattle.std.specs.List.{filter_map};
 ghost use Rattle.std.specs.Option.{option_to_list};
 ghost use Rattle.pdc_row.specs.CellView.{block_view};
@@ -8,7 +9,8 @@ ghost use Rattle.pdc_row.specs.Quality.{quality_of, worst_of};
 ghost use Rattle.pdc_row.specs.RowView.{row_view};
 ghost use Rattle.pdc_life.specs.Given.{columns_of};
 ghost use Rattle.pdc_life.specs.Life.{section_in_force};
-ghost use Rattle.pdc_life.specs.Row.{block_in, chosen_of, first_cell, quality_in, row_of, rows_of, second_cell};
+ghost use Rattle.pdc_life.specs.Row.{block_in, chosen_of, first_cell, quality_in, row_of};
+ghost use Rattle.pdc_life.specs.Row.{rows_of, second_cell};
 ghost use Rattle.pdc_life.specs.Run.{IsTicked};
 ghost use Rattle.pdc_plain_steps.specs.Views.{cell_at, given_view, life_view};
 
@@ -34,7 +36,8 @@ fn first_cell<'a>(
     column: usize,
     instant: u64,
 ) -> Option<&'a ColumnCell>
-    ensures { option_map (λ cell. cell_at cell.now) result ≡ first_cell (given_view given.now) (life_view life.now) column instant }
+    ensures { option_map (λ cell. cell_at cell.now) result ≡
+        first_cell (given_view given.now) (life_view life.now) column instant }
 {
     let stream = if given.lanes == 1 { column } else { 0 };
     cell_of(life, stream, column, instant)
@@ -47,7 +50,8 @@ fn second_cell<'a>(
     column: usize,
     instant: u64,
 ) -> Option<&'a ColumnCell>
-    ensures { option_map (λ cell. cell_at cell.now) result ≡ second_cell (given_view given.now) (life_view life.now) column instant }
+    ensures { option_map (λ cell. cell_at cell.now) result ≡
+        second_cell (given_view given.now) (life_view life.now) column instant }
 {
     if given.lanes == 1 {
         None
@@ -58,7 +62,8 @@ fn second_cell<'a>(
 
 /// The cell, where its block is present.
 fn present_of<'a>(cell: Option<&'a ColumnCell>) -> Option<&'a ColumnCell>
-    ensures { option_map (λ cell. cell_at cell.now) result ≡ present_of (option_map (λ cell. cell_at cell.now) cell.entry) }
+    ensures { option_map (λ cell. cell_at cell.now) result ≡
+        present_of (option_map (λ cell. cell_at cell.now) cell.entry) }
 {
     let cell = cell?;
     if is_present(&cell.block) {
@@ -75,7 +80,8 @@ fn chosen_of<'a>(
     column: usize,
     instant: u64,
 ) -> Option<&'a ColumnCell>
-    ensures { option_map (λ cell. cell_at cell.now) result ≡ chosen_of (given_view given.now) (life_view life.now) column instant }
+    ensures { option_map (λ cell. cell_at cell.now) result ≡
+        chosen_of (given_view given.now) (life_view life.now) column instant }
 {
     match present_of(first_cell(given, life, column, instant)) {
         Some(cell) => Some(cell),
@@ -86,7 +92,8 @@ fn chosen_of<'a>(
 /// The block of a column under the section in force: the chosen one, else the absent one; none without a section.
 fn block_at(given: &Given, life: &[Answered], instant: u64, column: usize) -> Option<Block>
     ensures { option_map block_view result
-        ≡ block_in (section_in_force (given_view given.now) (life_view life.now) column) (chosen_of (given_view given.now) (life_view life.now) column instant) }
+        ≡ block_in (section_in_force (given_view given.now) (life_view life.now) column)
+        (chosen_of (given_view given.now) (life_view life.now) column instant) }
 {
     let section = section_in_force(given, life, column)?;
     match chosen_of(given, life, column, instant) {
@@ -98,7 +105,8 @@ fn block_at(given: &Given, life: &[Answered], instant: u64, column: usize) -> Op
 /// The time quality that a column gives: that of the chosen block.
 fn quality_at(given: &Given, life: &[Answered], instant: u64, column: usize) -> Option<u8>
     ensures quality { result
-        ≡ quality_in (section_in_force (given_view given.now) (life_view life.now) column) (chosen_of (given_view given.now) (life_view life.now) column instant) }
+        ≡ quality_in (section_in_force (given_view given.now) (life_view life.now) column)
+        (chosen_of (given_view given.now) (life_view life.now) column instant) }
     ensures most { IfSome result (λ n. n ≤ 15) }
 {
     section_in_force(given, life, column)?;
@@ -110,7 +118,9 @@ fn quality_at(given: &Given, life: &[Answered], instant: u64, column: usize) -> 
 #[tactic(auto, using(crate::proofs::Ranges::filter_map_step))]
 fn blocks_at(given: &Given, life: &[Answered], instant: u64) -> ArrayVec<Block, MAX_PMUS>
     ensures blocks { map block_view result.items
-        ≡ filter_map (λ c. block_in (section_in_force (given_view given.now) (life_view life.now) c) (chosen_of (given_view given.now) (life_view life.now) c instant)) (columns_of (given_view given.now)) }
+        ≡ filter_map (λ c. block_in (section_in_force (given_view given.now) (life_view life.now)
+        c) (chosen_of (given_view given.now) (life_view life.now) c instant))
+        (columns_of (given_view given.now)) }
     ensures few { length result.items ≤ MAX_PMUS }
 {
     let mut blocks = ArrayVec::new();
@@ -123,7 +133,8 @@ fn blocks_at(given: &Given, life: &[Answered], instant: u64) -> ArrayVec<Block, 
 /// Appends the block, if there is one.
 fn push_some(block: Option<Block>, blocks: &mut ArrayVec<Block, MAX_PMUS>)
     requires { length blocks.old.items < MAX_PMUS }
-    ensures blocks { map block_view blocks.new.items ≡ map block_view blocks.old.items ++ option_to_list (option_map block_view block) }
+    ensures blocks { map block_view blocks.new.items ≡ map block_view blocks.old.items ++
+        option_to_list (option_map block_view block) }
     ensures grown { length blocks.new.items ≤ length blocks.old.items + 1 }
 {
     if let Some(block) = block {
@@ -135,7 +146,9 @@ fn push_some(block: Option<Block>, blocks: &mut ArrayVec<Block, MAX_PMUS>)
 #[tactic(auto, using(crate::proofs::Ranges::filter_map_step))]
 fn row_quality(given: &Given, life: &[Answered], instant: u64) -> u8
     ensures worst { result ≡ quality_of (filter_map
-        (λ c. quality_in (section_in_force (given_view given.now) (life_view life.now) c) (chosen_of (given_view given.now) (life_view life.now) c instant)) (columns_of (given_view given.now))) }
+        (λ c. quality_in (section_in_force (given_view given.now) (life_view life.now) c)
+        (chosen_of (given_view given.now) (life_view life.now) c instant))
+        (columns_of (given_view given.now))) }
     ensures most { result ≤ 15 }
 {
     let mut worst = None;
@@ -149,7 +162,8 @@ fn row_quality(given: &Given, life: &[Answered], instant: u64) -> u8
 fn worse(worst: Option<u8>, quality: Option<u8>) -> Option<u8>
     requires worst { IfSome worst (λ n. n ≤ 15) }
     requires quality { IfSome quality (λ n. n ≤ 15) }
-    ensures worse { (ns : List ℕ) → worst_of result ns ≡ worst_of worst (option_to_list quality ++ ns) }
+    ensures worse { (ns : List ℕ) →
+        worst_of result ns ≡ worst_of worst (option_to_list quality ++ ns) }
     ensures most { IfSome result (λ n. n ≤ 15) }
 {
     match (worst, quality) {
@@ -185,7 +199,8 @@ pub fn rows_of(
     now: u64,
 ) -> Result<Vec<DueRow>, AllocError>
     requires { IsTicked (given_view given.now) (life_view life.now) }
-    ensures { IfOk result (λ rows. map row_view rows.items ≡ rows_of (given_view given.now) (life_view life.now) now) }
+    ensures { IfOk result (λ rows. map row_view rows.items ≡
+        rows_of (given_view given.now) (life_view life.now) now) }
 {
     let closing = closing(alloc, given, life, now)?;
     rows_at(alloc, given, life, &closing)
@@ -199,7 +214,8 @@ fn rows_at(
     instants: &[u64],
 ) -> Result<Vec<DueRow>, AllocError>
     requires { IsTicked (given_view given.now) (life_view life.now) }
-    ensures { IfOk result (λ rows. map row_view rows.items ≡ map (row_of (given_view given.now) (life_view life.now)) instants.now) }
+    ensures { IfOk result (λ rows. map row_view rows.items ≡
+        map (row_of (given_view given.now) (life_view life.now)) instants.now) }
 {
     let mut rows = Vec::new(alloc);
     for instant in instants {

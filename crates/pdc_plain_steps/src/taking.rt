@@ -1,8 +1,10 @@
 //! What was taken, asked of the whole list. A life is kept newest first.
 ghost use Rattle.std.specs.Prelude.{◌≡◌, ◌≤◌, find, length, map, option_map};
 ghost use Rattle.std.specs.Option.{option_to_list};
-ghost use Rattle.pdc_life.specs.Life.{age_of, cell_in, cell_of, is_of_column, is_take_of, take_at, take_of, takes, takes_since_adopted, was_taken};
-ghost use Rattle.pdc_plain_steps.specs.Views.{cell_at, entry_view, given_view, life_view, part_view, take_view};
+ghost use Rattle.pdc_life.specs.Life.{age_of, cell_in, cell_of, is_of_column, is_take_of};
+ghost use Rattle.pdc_life.specs.Life.{take_at, take_of, takes, takes_since_adopted, was_taken};
+ghost use Rattle.pdc_plain_steps.specs.Views.{cell_at, entry_view, given_view, life_view};
+ghost use Rattle.pdc_plain_steps.specs.Views.{part_view, take_view};
 
 use crate::given::Given;
 use crate::past::is_adoption_of;
@@ -50,7 +52,8 @@ fn take_since_adopted<'a>(
     stream: usize,
     instant: u64,
 ) -> Option<Take<'a>>
-    ensures { option_map take_view result ≡ find (is_take_of stream instant) (takes_since_adopted (life_view life.now) column) }
+    ensures { option_map take_view result ≡
+        find (is_take_of stream instant) (takes_since_adopted (life_view life.now) column) }
 {
     let (newest, earlier) = life.split_first()?;
     if is_adoption_of(newest, column) {
@@ -70,7 +73,8 @@ fn take_since_adopted<'a>(
 
 /// The data taken of a stream for an instant in the whole life.
 fn take_ever<'a>(life: &'a [Answered], stream: usize, instant: u64) -> Option<Take<'a>>
-    ensures { option_map take_view result ≡ find (is_take_of stream instant) (takes (life_view life.now)) }
+    ensures { option_map take_view result ≡
+        find (is_take_of stream instant) (takes (life_view life.now)) }
 {
     let (newest, earlier) = life.split_first()?;
     match taken_at(newest) {
@@ -92,7 +96,8 @@ pub fn take_of<'a>(
     stream: usize,
     instant: u64,
 ) -> Option<Take<'a>>
-    ensures { option_map take_view result ≡ take_of (given_view given.now) (life_view life.now) stream instant }
+    ensures { option_map take_view result ≡
+        take_of (given_view given.now) (life_view life.now) stream instant }
 {
     if given.lanes == 1 {
         take_since_adopted(life, stream, stream, instant)
@@ -103,7 +108,8 @@ pub fn take_of<'a>(
 
 /// The first of these cells that is of the column.
 fn cell_among<'a>(cells: &'a [ColumnCell], column: usize) -> Option<&'a ColumnCell>
-    ensures { option_map (λ cell. part_view cell.now) result ≡ find (is_of_column column) (map part_view cells.now) }
+    ensures { option_map (λ cell. part_view cell.now) result ≡
+        find (is_of_column column) (map part_view cells.now) }
 {
     let (cell, cells) = cells.split_first()?;
     if cell.column == column {
@@ -120,7 +126,8 @@ pub fn cell_of<'a>(
     column: usize,
     instant: u64,
 ) -> Option<&'a ColumnCell>
-    ensures { option_map (λ cell. cell_at cell.now) result ≡ cell_of (life_view life.now) stream column instant }
+    ensures { option_map (λ cell. cell_at cell.now) result ≡
+        cell_of (life_view life.now) stream column instant }
 {
     let take = take_since_adopted(life, column, stream, instant)?;
     cell_among(take.cells, column)

@@ -1,7 +1,8 @@
 //! What ticks and pops are answered, asked of the whole list. A life is kept newest first.
 ghost use Rattle.std.specs.Prelude.{◌≡◌, ◌++◌, [], ◌∷◌, IfOk, OnOk, if◌then◌else◌, max, option_map};
 ghost use Rattle.pdc_cfg.specs.Section.{fields_of_view};
-ghost use Rattle.pdc_life.specs.Answer.{greatest_count, has_change, is_newer, is_ready, pop_answer, ready_columns, tick_answer, waiting_counts};
+ghost use Rattle.pdc_life.specs.Answer.{greatest_count, has_change, is_newer, is_ready};
+ghost use Rattle.pdc_life.specs.Answer.{pop_answer, ready_columns, tick_answer, waiting_counts};
 ghost use Rattle.pdc_life.specs.Given.{count_for};
 ghost use Rattle.pdc_life.specs.Life.{Pop, Tick, cleared_count, held_section, section_in_force};
 ghost use Rattle.pdc_life.specs.Run.{IsTicked};
@@ -19,7 +20,8 @@ use std::alloc::{AllocError, Global};
 
 /// Whether the count is greater than the one in force, or the first.
 fn is_newer(held: &SectionView, in_force: Option<SectionView>) -> bool
-    ensures { result ≡ is_newer (fields_of_view held.now) (option_map fields_of_view in_force.entry) }
+    ensures { result ≡ is_newer (fields_of_view held.now)
+        (option_map fields_of_view in_force.entry) }
 {
     match in_force {
         Some(in_force) => in_force.count < held.count,
@@ -29,7 +31,8 @@ fn is_newer(held: &SectionView, in_force: Option<SectionView>) -> bool
 
 /// Whether what is held is newer than what is in force, and cleared.
 fn is_ready(held: Option<SectionView>, in_force: Option<SectionView>, cleared: u16) -> bool
-    ensures { result ≡ is_ready (option_map fields_of_view held.entry) (option_map fields_of_view in_force.entry) cleared }
+    ensures { result ≡ is_ready (option_map fields_of_view held.entry)
+        (option_map fields_of_view in_force.entry) cleared }
 {
     match held {
         Some(held) => is_newer(&held, in_force) && held.count <= cleared,
@@ -44,8 +47,10 @@ fn is_ready_column(
     counts: &[u16; MAX_PMUS],
     column: usize,
 ) -> bool
-    ensures { result ≡ is_ready (held_section (given_view given.now) (life_view life.now) column) (section_in_force (given_view given.now) (life_view life.now) column)
-        (max (cleared_count (given_view given.now) (life_view life.now) column) (count_for column counts.now)) }
+    ensures { result ≡ is_ready (held_section (given_view given.now) (life_view life.now) column)
+        (section_in_force (given_view given.now) (life_view life.now) column)
+        (max (cleared_count (given_view given.now) (life_view life.now) column)
+        (count_for column counts.now)) }
 {
     let cleared = cleared_count(given, life, column).max(count_for(column, counts));
     let held = held_section(given, life, column);
@@ -55,7 +60,8 @@ fn is_ready_column(
 
 /// Appends the column, if it is ready.
 fn push_ready(column: usize, ready: bool, columns: &mut Vec<usize>) -> Result<(), AllocError>
-    ensures { OnOk result (columns.new.items ≡ columns.old.items ++ (if ready then column ∷ [] else [])) }
+    ensures { OnOk result (columns.new.items ≡ columns.old.items ++
+        (if ready then column ∷ [] else [])) }
 {
     if ready {
         columns.push(column)?;
@@ -70,7 +76,8 @@ fn ready_columns(
     life: &[Answered],
     counts: &[u16; MAX_PMUS],
 ) -> Result<Vec<usize>, AllocError>
-    ensures { IfOk result (λ columns. columns.items ≡ ready_columns (given_view given.now) (life_view life.now) counts.now) }
+    ensures { IfOk result (λ columns. columns.items ≡
+        ready_columns (given_view given.now) (life_view life.now) counts.now) }
 {
     let mut columns = Vec::new(alloc);
     for column in 0..given.columns {
@@ -96,7 +103,8 @@ fn tick_answer(
     counts: &[u16; MAX_PMUS],
 ) -> Result<TickAnswer, AllocError>
     requires { IsTicked (given_view given.now) (life_view life.now) }
-    ensures { IfOk result (λ answer. tick_view answer ≡ tick_answer (given_view given.now) (life_view life.now) now counts.now) }
+    ensures { IfOk result (λ answer. tick_view answer ≡
+        tick_answer (given_view given.now) (life_view life.now) now counts.now) }
 {
     let rows = rows_of(alloc, given, life, now)?;
     let ready = ready_columns(alloc, given, life, counts)?;
@@ -128,7 +136,9 @@ pub fn tick<'a>(
     counts: &[u16; MAX_PMUS],
 ) -> Result<Answered<'a>, AllocError>
     requires { IsTicked (given_view given.now) (life_view life.now) }
-    ensures { IfOk result (λ answered. entry_view answered ≡ Tick now counts.now (tick_answer (given_view given.now) (life_view life.now) now counts.now)) }
+    ensures { IfOk result (λ answered. entry_view answered ≡
+        Tick now counts.now (tick_answer (given_view given.now) (life_view life.now) now
+        counts.now)) }
 {
     Ok(Answered::Tick {
         now,
@@ -143,7 +153,8 @@ pub fn tick<'a>(
 ///
 /// [`AllocError`] where there is no room and none is got.
 pub fn pop<'a>(alloc: Global, life: &[Answered<'a>]) -> Result<Answered<'a>, AllocError>
-    ensures { IfOk result (λ answered. entry_view answered ≡ Pop (pop_answer (life_view life.now))) }
+    ensures { IfOk result (λ answered. entry_view answered ≡
+        Pop (pop_answer (life_view life.now))) }
 {
     let mut rows = waiting(alloc, life)?;
     if rows.is_empty() {

@@ -5,7 +5,7 @@ ghost use Rattle.pdc_settings.specs.Settings.{IsFaultOf};
 ghost use Rattle.pdc_settings.specs.Wanting.{IsTomlWant};
 ghost use Rattle.pdc_play.specs.Roles.{IsAnyFault, IsAnySettings, roles_of};
 
-use pdc_settings::{MergerSettings, NodeSettings, SettingsFault, is_of_merger};
+use pdc_settings::{Document, MergerSettings, NodeSettings, SettingsFault};
 use std::alloc::Global;
 
 /// The settings of a node or of the merger.
@@ -34,14 +34,16 @@ pub struct Roles {
 ///
 /// Why it is none of its kind; `NoMemory` where `toml` answered that memory was wanted.
 pub fn read_settings(alloc: Global, text: &str) -> Result<AnySettings, SettingsFault>
-    ensures value { IfOk result (λ settings. IsSomeAnd (parse_document text.now) (λ members. IsAnySettings members settings)) }
+    ensures value { IfOk result (λ settings. IsSomeAnd (parse_document text.now)
+        (λ members. IsAnySettings members settings)) }
     ensures fault { IfErr result (IsFaultOf IsAnyFault text.now) }
     ensures wanted { IsErrOf result SettingsFault.NoMemory → IsTomlWant text.now }
 {
-    if is_of_merger(alloc, text)? {
-        Ok(AnySettings::Merger(MergerSettings::from_toml(alloc, text)?))
+    let document = Document::parse(alloc, text)?;
+    if document.is_merger() {
+        Ok(AnySettings::Merger(MergerSettings::from_document(&document)?))
     } else {
-        Ok(AnySettings::Node(NodeSettings::from_toml(alloc, text)?))
+        Ok(AnySettings::Node(NodeSettings::from_document(&document)?))
     }
 }
 

@@ -37,8 +37,10 @@ pub fn play_over<S: Store + Drop, R: Read, W: Write>(
     reader: &mut CountedReader<R>,
     writer: &mut W,
 ) -> Result<Ending, PlayFault>
-    ensures told { IfOk result (IsPlayedOn (world_over roles (S.stored stores.0) (S.stored stores.1) (S.stored stores.2))
-        (R.remaining (reader_of reader.old)) (R.remaining (reader_of reader.new)) (W.contents writer.old) (W.contents writer.new)) }
+    ensures told { IfOk result (IsPlayedOn (world_over roles (S.stored stores.0)
+        (S.stored stores.1) (S.stored stores.2))
+        (R.remaining (reader_of reader.old)) (R.remaining (reader_of reader.new))
+        (W.contents writer.old) (W.contents writer.new)) }
     ensures whole { result ≡ Ok Played → IsAtEnd (R.remaining (reader_of reader.new)) }
     ensures reads { reads_of reader.new ≤ reads_of reader.old + MAX_READS }
     ensures refused { result ≡ Ok (Refused NoMemory) → SomeWasRefused }
@@ -74,7 +76,8 @@ pub fn play_roles<R: Read, W: Write>(
     writer: &mut W,
 ) -> Result<Ending, PlayFault>
     ensures told { IfOk result (IsPlayedOn (world_over roles first_stored first_stored first_stored)
-        (R.remaining (reader_of reader.old)) (R.remaining (reader_of reader.new)) (W.contents writer.old) (W.contents writer.new)) }
+        (R.remaining (reader_of reader.old)) (R.remaining (reader_of reader.new))
+        (W.contents writer.old) (W.contents writer.new)) }
     ensures whole { result ≡ Ok Played → IsAtEnd (R.remaining (reader_of reader.new)) }
     ensures reads { reads_of reader.new ≤ reads_of reader.old + MAX_READS }
     ensures refused { result ≡ Ok (Refused NoMemory) → SomeWasRefused }
@@ -102,7 +105,8 @@ pub fn play_settings<R: Read, W: Write>(
     writer: &mut W,
 ) -> Result<Ending, PlayFault>
     ensures told { IfOk result (IsPlayedBy (roles_of a b m)
-        (R.remaining (reader_of reader.old)) (R.remaining (reader_of reader.new)) (W.contents writer.old) (W.contents writer.new)) }
+        (R.remaining (reader_of reader.old)) (R.remaining (reader_of reader.new))
+        (W.contents writer.old) (W.contents writer.new)) }
     ensures whole { result ≡ Ok Played → IsAtEnd (R.remaining (reader_of reader.new)) }
     ensures reads { reads_of reader.new ≤ reads_of reader.old + MAX_READS }
     ensures refused { result ≡ Ok (Refused NoMemory) → SomeWasRefused }

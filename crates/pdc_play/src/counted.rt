@@ -44,7 +44,8 @@ impl<R: Read> CountedReader<R> {
     pub(crate) fn read(&mut self, buffer: &mut [u8]) -> io::Result<usize>
         ensures kept { length buffer.new ≡ length buffer.old }
         ensures bound { ReadsAtMost result buffer.new }
-        ensures bytes { ReadConsumes (R.remaining (reader_of self.old)) (R.remaining (reader_of self.new)) result buffer.new }
+        ensures bytes { ReadConsumes (R.remaining (reader_of self.old))
+            (R.remaining (reader_of self.new)) result buffer.new }
         ensures reads { reads_of self.new ≡ counted (reads_of self.old + 1) }
     {
         let answer = self.reader.read(buffer);

@@ -32,7 +32,8 @@ pub fn zeros(alloc: Global, count: usize) -> Result<Vec<u8>, AllocError>
 ///
 /// [`AllocError`] where a request for them was refused.
 pub fn bytes(alloc: Global, digits: &[u8]) -> Result<Option<Vec<u8>>, AllocError>
-    ensures value { IfOk result (λ found. option_map (λ bytes. bytes.items) found ≡ bytes_of digits.now) }
+    ensures value { IfOk result (λ found. option_map (λ bytes. bytes.items) found ≡
+        bytes_of digits.now) }
     ensures refused { OnErr result (WasRefused (length digits.now / 2)) }
 {
     if digits.is_empty() || digits.len() % 2 != 0 {
@@ -51,7 +52,8 @@ pub fn bytes(alloc: Global, digits: &[u8]) -> Result<Option<Vec<u8>>, AllocError
 ///
 /// What the writer answers.
 pub fn write_upper<W: Write>(bytes: &[u8], writer: &mut W) -> io::Result<()>
-    ensures { OnOk result (Appends (W.contents writer.old) (W.contents writer.new) (encode_upper bytes.now)) }
+    ensures { OnOk result (Appends (W.contents writer.old) (W.contents writer.new)
+        (encode_upper bytes.now)) }
 {
     for byte in bytes {
         let pair = [DIGITS[(*byte / 16) as usize], DIGITS[(*byte % 16) as usize]];

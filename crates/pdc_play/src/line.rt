@@ -3,7 +3,8 @@ ghost use Rattle.std.specs.Prelude.{◌≡◌, IfOk, IsErrOf, None, OnErr, Some,
 ghost use Rattle.pdc_history.specs.pdc_memory.Asking.{SomeWasRefused};
 ghost use Rattle.pdc_history.specs.Handed.{act_of, asked_of, store_of, who_of};
 ghost use Rattle.pdc_history.specs.Event.{StopDuring};
-ghost use Rattle.pdc_play.specs.Line.{act_of_core, asked_behind, asked_of_core, asked_of_line, asked_of_three, asked_of_two, core_of, landing_of};
+ghost use Rattle.pdc_play.specs.Line.{act_of_core, asked_behind, asked_of_core, asked_of_line};
+ghost use Rattle.pdc_play.specs.Line.{asked_of_three, asked_of_two, core_of, landing_of};
 ghost use Rattle.pdc_play.specs.Word.{cut};
 ghost use Rattle.pdc_play.specs.Written.{asked_in};
 ghost use Rattle.pdc_play.specs.declared.line.NotRead.{NotRead};
@@ -65,7 +66,8 @@ fn landing(word: &[u8]) -> Option<bool>
 
 /// The event of a line of two words.
 fn read_two(alloc: Global, verb: &[u8], word: &[u8]) -> Result<Option<Written>, AllocError>
-    ensures event { IfOk result (λ found. option_map asked_in found ≡ asked_of_two verb.now word.now) }
+    ensures event { IfOk result (λ found. option_map asked_in found ≡
+        asked_of_two verb.now word.now) }
     ensures refused { OnErr result SomeWasRefused }
 {
     if verb == b"send".as_slice() {
@@ -89,7 +91,8 @@ fn read_two(alloc: Global, verb: &[u8], word: &[u8]) -> Result<Option<Written>, 
 
 /// The stop in a store, which landed or not as the word says.
 fn stop_in(storing: Storing, word: &[u8]) -> Option<Act>
-    ensures { option_map act_of result ≡ option_map (StopDuring (store_of storing)) (landing_of word.now) }
+    ensures { option_map act_of result ≡
+        option_map (StopDuring (store_of storing)) (landing_of word.now) }
 {
     landing(word).map(|landed| Act::Stop(StopAt::In { storing, landed }))
 }
@@ -132,7 +135,8 @@ fn read_three(
     who: Who,
     word: &[u8],
 ) -> Result<Option<Written>, AllocError>
-    ensures event { IfOk result (λ found. option_map asked_in found ≡ asked_of_three verb.now (who_of who) word.now) }
+    ensures event { IfOk result (λ found. option_map asked_in found ≡
+        asked_of_three verb.now (who_of who) word.now) }
     ensures refused { OnErr result SomeWasRefused }
 {
     if verb == b"junk".as_slice() {
@@ -143,7 +147,8 @@ fn read_three(
 
 /// The event of a line that has more words than one.
 fn read_words(alloc: Global, verb: &[u8], rest: &[u8]) -> Result<Option<Written>, AllocError>
-    ensures event { IfOk result (λ found. option_map asked_in found ≡ asked_behind verb.now (cut rest.now).word (cut rest.now).rest) }
+    ensures event { IfOk result (λ found. option_map asked_in found ≡
+        asked_behind verb.now (cut rest.now).word (cut rest.now).rest) }
     ensures refused { OnErr result SomeWasRefused }
 {
     let words = cut_word(rest);

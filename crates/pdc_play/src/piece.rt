@@ -42,9 +42,11 @@ impl Piece {
     /// What the reader answers.
     pub fn fill<R: Read>(&mut self, reader: &mut CountedReader<R>) -> io::Result<usize>
         ensures bound { IfOk result (λ len. len ≤ length self.new.bytes.items) }
-        ensures bytes { IfOk result (λ len. Consumes (R.remaining (reader_of reader.old)) (R.remaining (reader_of reader.new)) (take len self.new.bytes.items)) }
+        ensures bytes { IfOk result (λ len. Consumes (R.remaining (reader_of reader.old))
+            (R.remaining (reader_of reader.new)) (take len self.new.bytes.items)) }
         ensures end { IfOk result (λ len. len ≡ 0 → IsAtEnd (R.remaining (reader_of reader.new))) }
-        ensures err { OnErr result (Keeps (R.remaining (reader_of reader.old)) (R.remaining (reader_of reader.new))) }
+        ensures err { OnErr result (Keeps (R.remaining (reader_of reader.old))
+            (R.remaining (reader_of reader.new))) }
         ensures reads { reads_of reader.new ≡ counted (reads_of reader.old + 1) }
     {
         reader.read(self.bytes.as_mut_slice())

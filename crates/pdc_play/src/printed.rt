@@ -24,7 +24,8 @@ fn came_text(outcome: Option<Outcome>) -> &'static str
 
 /// Writes what a tick did.
 fn write_ticked<W: Write>(ticked: Ticked, writer: &mut W) -> io::Result<()>
-    ensures { OnOk result (Appends (W.contents writer.old) (W.contents writer.new) (printed.ticked_of ticked)) }
+    ensures { OnOk result (Appends (W.contents writer.old) (W.contents writer.new)
+        (printed.ticked_of ticked)) }
 {
     let used_up = if ticked.used_up { " used_up" } else { "" };
     match ticked.change {
@@ -35,7 +36,8 @@ fn write_ticked<W: Write>(ticked: Ticked, writer: &mut W) -> io::Result<()>
 
 /// Writes the row that was published.
 fn write_row<W: Write>(row: Option<Published>, frame: &[u8], writer: &mut W) -> io::Result<()>
-    ensures { OnOk result (Appends (W.contents writer.old) (W.contents writer.new) (printed.row_of row frame.now)) }
+    ensures { OnOk result (Appends (W.contents writer.old) (W.contents writer.new)
+        (printed.row_of row frame.now)) }
 {
     let Some(row) = row else {
         return write!(writer, "none");
@@ -46,14 +48,16 @@ fn write_row<W: Write>(row: Option<Published>, frame: &[u8], writer: &mut W) -> 
 
 /// Writes the name of a core, and a space.
 fn write_name<W: Write>(who: Who, writer: &mut W) -> io::Result<()>
-    ensures { OnOk result (Appends (W.contents writer.old) (W.contents writer.new) (printed.name_of who ++ codes " ")) }
+    ensures { OnOk result (Appends (W.contents writer.old) (W.contents writer.new)
+        (printed.name_of who ++ codes " ")) }
 {
     write!(writer, "{} ", name_text(who))
 }
 
 /// Writes the line of a tick.
 fn write_tick<W: Write>(who: Who, ticked: Ticked, writer: &mut W) -> io::Result<()>
-    ensures { OnOk result (Appends (W.contents writer.old) (W.contents writer.new) (printed.line_of (told.Ticked who ticked) [])) }
+    ensures { OnOk result (Appends (W.contents writer.old) (W.contents writer.new)
+        (printed.line_of (told.Ticked who ticked) [])) }
 {
     write_name(who, writer)?;
     write_ticked(ticked, writer)?;
@@ -67,7 +71,8 @@ fn write_published<W: Write>(
     frame: &[u8],
     writer: &mut W,
 ) -> io::Result<()>
-    ensures { OnOk result (Appends (W.contents writer.old) (W.contents writer.new) (printed.line_of (told.Published who row) frame.now)) }
+    ensures { OnOk result (Appends (W.contents writer.old) (W.contents writer.new)
+        (printed.line_of (told.Published who row) frame.now)) }
 {
     write_name(who, writer)?;
     write_row(row, frame, writer)?;
@@ -80,7 +85,8 @@ fn write_published<W: Write>(
 ///
 /// What the writer answers.
 pub fn write_reply<W: Write>(reply: &Reply, frame: &[u8], writer: &mut W) -> io::Result<()>
-    ensures { OnOk result (Appends (W.contents writer.old) (W.contents writer.new) (printed.line_of reply.now frame.now)) }
+    ensures { OnOk result (Appends (W.contents writer.old) (W.contents writer.new)
+        (printed.line_of reply.now frame.now)) }
 {
     match *reply {
         Reply::Sent { number } => write!(writer, "sent {number}\n"),
@@ -101,7 +107,8 @@ pub fn write_reply<W: Write>(reply: &Reply, frame: &[u8], writer: &mut W) -> io:
 ///
 /// What the writer answers.
 pub fn write_fault<W: Write>(fault: Fault, at: u64, writer: &mut W) -> io::Result<()>
-    ensures { OnOk result (Appends (W.contents writer.old) (W.contents writer.new) (printed.fault_line fault at)) }
+    ensures { OnOk result (Appends (W.contents writer.old) (W.contents writer.new)
+        (printed.fault_line fault at)) }
 {
     match fault {
         Fault::PremiseBroken(broken) => { write!(writer, "X1 {} at {at}\n", premise_text(broken)) }
@@ -117,7 +124,8 @@ pub fn write_fault<W: Write>(fault: Fault, at: u64, writer: &mut W) -> io::Resul
 ///
 /// What the writer answers.
 pub fn write_not_an_event<W: Write>(number: u64, writer: &mut W) -> io::Result<()>
-    ensures { OnOk result (Appends (W.contents writer.old) (W.contents writer.new) (printed.not_an_event number)) }
+    ensures { OnOk result (Appends (W.contents writer.old) (W.contents writer.new)
+        (printed.not_an_event number)) }
 {
     write!(writer, "line {number}: not an event\n")
 }

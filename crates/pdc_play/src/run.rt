@@ -29,9 +29,13 @@ fn play_piece<P: Plays, R: Read, W: Write>(
     reader: &mut CountedReader<R>,
     writer: &mut W,
 ) -> Result<Option<Ending>, PlayFault>
-    ensures comes { (first : P) (start : Option (List ℕ)) (read : List ℕ) → Stands P.replies P.frames first start read script.old.begun.items script.old.lines script.old.events player.old (W.contents writer.old)
-        → ReadsOn P.replies P.refuses P.frames first start read script.new.begun.items script.new.lines script.new.events player.new
-        (R.remaining (reader_of reader.old)) (R.remaining (reader_of reader.new)) (W.contents writer.new) result }
+    ensures comes { (first : P) (start : Option (List ℕ)) (read : List ℕ) →
+        Stands P.replies P.frames first start read script.old.begun.items script.old.lines
+        script.old.events player.old (W.contents writer.old)
+        → ReadsOn P.replies P.refuses P.frames first start read script.new.begun.items
+        script.new.lines script.new.events player.new
+        (R.remaining (reader_of reader.old)) (R.remaining (reader_of reader.new))
+        (W.contents writer.new) result }
     ensures reads { reads_of reader.new ≡ counted (reads_of reader.old + 1) }
     ensures long { IsErrOf result PlayFault.TooLong → ⊥ }
     ensures refused { result ≡ Ok (Some (Refused NoMemory)) → P.wants }
@@ -59,13 +63,16 @@ pub fn run_script<P: Plays, R: Read, W: Write>(
     reader: &mut CountedReader<R>,
     writer: &mut W,
 ) -> Result<Ending, PlayFault>
-    ensures ends { IfOk result (λ end. (read : List ℕ) × Consumes (R.remaining (reader_of reader.old)) (R.remaining (reader_of reader.new)) read
-        × HasEnded P.replies P.refuses P.frames player.old (W.contents writer.old) (IsAtEnd (R.remaining (reader_of reader.new))) read end
+    ensures ends { IfOk result (λ end. (read : List ℕ)
+        × Consumes (R.remaining (reader_of reader.old)) (R.remaining (reader_of reader.new)) read
+        × HasEnded P.replies P.refuses P.frames player.old (W.contents writer.old)
+        (IsAtEnd (R.remaining (reader_of reader.new))) read end
         player.new (W.contents writer.new)) }
     ensures whole { result ≡ Ok Played → IsAtEnd (R.remaining (reader_of reader.new)) }
     // The input is read so often at most, and is too long only where it was.
     ensures reads { reads_of reader.new ≤ reads_of reader.old + MAX_READS }
-    ensures long { IsErrOf result PlayFault.TooLong → counted (reads_of reader.old + MAX_READS) ≤ reads_of reader.new }
+    ensures long { IsErrOf result PlayFault.TooLong →
+        counted (reads_of reader.old + MAX_READS) ≤ reads_of reader.new }
     ensures refused { result ≡ Ok (Refused NoMemory) → P.wants }
     ensures denied { IsErrOf result PlayFault.Memory → SomeWasRefused }
 {

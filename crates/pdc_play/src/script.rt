@@ -65,9 +65,15 @@ impl Script {
         player: &mut P,
         writer: &mut W,
     ) -> Result<Option<Ending>, PlayFault>
-        ensures comes { (first : P) (start : Option (List ℕ)) (read : List ℕ) → Stands P.replies P.frames first start read self.old.begun.items self.old.lines self.old.events player.old (W.contents writer.old)
-            → Comes (Stands P.replies P.frames first start (read ++ 10 ∷ []) self.new.begun.items self.new.lines self.new.events player.new (W.contents writer.new))
-            (λ end. (more : List ℕ) → HasEndedEarly P.replies P.refuses P.frames first start (read ++ 10 ∷ more) end player.new (W.contents writer.new)) result }
+        ensures comes { (first : P) (start : Option (List ℕ)) (read : List ℕ) →
+            Stands P.replies P.frames first start read self.old.begun.items self.old.lines
+            self.old.events player.old (W.contents writer.old)
+            → Comes (Stands P.replies P.frames first start (read ++ 10 ∷
+            []) self.new.begun.items self.new.lines self.new.events player.new
+            (W.contents writer.new))
+            (λ end. (more : List ℕ) →
+            HasEndedEarly P.replies P.refuses P.frames first start (read ++ 10 ∷
+            more) end player.new (W.contents writer.new)) result }
         ensures refused { result ≡ Ok (Some (Refused NoMemory)) → P.wants }
         ensures denied { IsErrOf result PlayFault.Memory → SomeWasRefused }
         ensures long { IsErrOf result PlayFault.TooLong → ⊥ }
@@ -92,9 +98,15 @@ impl Script {
         player: &mut P,
         writer: &mut W,
     ) -> Result<Option<Ending>, PlayFault>
-        ensures comes { (first : P) (start : Option (List ℕ)) (read : List ℕ) → Stands P.replies P.frames first start read self.old.begun.items self.old.lines self.old.events player.old (W.contents writer.old)
-            → Comes (Stands P.replies P.frames first start (read ++ byte ∷ []) self.new.begun.items self.new.lines self.new.events player.new (W.contents writer.new))
-            (λ end. (more : List ℕ) → HasEndedEarly P.replies P.refuses P.frames first start (read ++ byte ∷ more) end player.new (W.contents writer.new)) result }
+        ensures comes { (first : P) (start : Option (List ℕ)) (read : List ℕ) →
+            Stands P.replies P.frames first start read self.old.begun.items self.old.lines
+            self.old.events player.old (W.contents writer.old)
+            → Comes (Stands P.replies P.frames first start (read ++ byte ∷
+            []) self.new.begun.items self.new.lines self.new.events player.new
+            (W.contents writer.new))
+            (λ end. (more : List ℕ) →
+            HasEndedEarly P.replies P.refuses P.frames first start (read ++ byte ∷
+            more) end player.new (W.contents writer.new)) result }
         ensures refused { result ≡ Ok (Some (Refused NoMemory)) → P.wants }
         ensures denied { IsErrOf result PlayFault.Memory → SomeWasRefused }
         ensures long { IsErrOf result PlayFault.TooLong → ⊥ }
@@ -114,9 +126,14 @@ impl Script {
         player: &mut P,
         writer: &mut W,
     ) -> Result<Option<Ending>, PlayFault>
-        ensures comes { (first : P) (start : Option (List ℕ)) (read : List ℕ) → Stands P.replies P.frames first start read self.old.begun.items self.old.lines self.old.events player.old (W.contents writer.old)
-            → Comes (Stands P.replies P.frames first start (read ++ piece.now) self.new.begun.items self.new.lines self.new.events player.new (W.contents writer.new))
-            (λ end. HasEndedEarly P.replies P.refuses P.frames first start (read ++ piece.now) end player.new (W.contents writer.new)) result }
+        ensures comes { (first : P) (start : Option (List ℕ)) (read : List ℕ) →
+            Stands P.replies P.frames first start read self.old.begun.items self.old.lines
+            self.old.events player.old (W.contents writer.old)
+            → Comes (Stands P.replies P.frames first start (read ++
+            piece.now) self.new.begun.items self.new.lines self.new.events player.new
+            (W.contents writer.new))
+            (λ end. HasEndedEarly P.replies P.refuses P.frames first start (read ++
+            piece.now) end player.new (W.contents writer.new)) result }
         ensures refused { result ≡ Ok (Some (Refused NoMemory)) → P.wants }
         ensures denied { IsErrOf result PlayFault.Memory → SomeWasRefused }
         ensures long { IsErrOf result PlayFault.TooLong → ⊥ }
@@ -135,8 +152,11 @@ impl Script {
         player: &mut P,
         writer: &mut W,
     ) -> Result<Ending, PlayFault>
-        ensures comes { (first : P) (start : Option (List ℕ)) (read : List ℕ) → Stands P.replies P.frames first start read self.old.begun.items self.old.lines self.old.events player.old (W.contents writer.old)
-            → IfOk result (λ end. HasEnded P.replies P.refuses P.frames first start (Unit {0}) read end player.new (W.contents writer.new)) }
+        ensures comes { (first : P) (start : Option (List ℕ)) (read : List ℕ) →
+            Stands P.replies P.frames first start read self.old.begun.items self.old.lines
+            self.old.events player.old (W.contents writer.old)
+            → IfOk result (λ end. HasEnded P.replies P.refuses P.frames first start (Unit {0}) read
+            end player.new (W.contents writer.new)) }
         ensures refused { result ≡ Ok (Refused NoMemory) → P.wants }
         ensures denied { IsErrOf result PlayFault.Memory → SomeWasRefused }
         ensures long { IsErrOf result PlayFault.TooLong → ⊥ }

@@ -37,8 +37,10 @@ fn play_written<P: Plays, W: Write>(
     player: &mut P,
     writer: &mut W,
 ) -> Result<Option<Ending>, PlayFault>
-    ensures comes { Comes (Replies P.replies P.frames player.old (asked_in written.now) player.new (W.contents writer.old) (W.contents writer.new))
-        (λ end. Refuses P.refuses player.old (asked_in written.now) player.new at end (W.contents writer.old) (W.contents writer.new)) result }
+    ensures comes { Comes (Replies P.replies P.frames player.old (asked_in written.now) player.new
+        (W.contents writer.old) (W.contents writer.new))
+        (λ end. Refuses P.refuses player.old (asked_in written.now) player.new at end
+        (W.contents writer.old) (W.contents writer.new)) result }
     ensures refused { result ≡ Ok (Some (Refused NoMemory)) → P.wants }
     ensures denied { IsErrOf result PlayFault.Memory → SomeWasRefused }
     ensures long { IsErrOf result PlayFault.TooLong → ⊥ }
@@ -65,8 +67,10 @@ pub fn play_text<P: Plays, W: Write>(
     player: &mut P,
     writer: &mut W,
 ) -> Result<Option<Ending>, PlayFault>
-    ensures comes { Comes (PlaysOn P.replies P.frames player.old text.now player.new (W.contents writer.old) (W.contents writer.new))
-        (λ end. EndsHere P.refuses player.old text.now player.new number at end (W.contents writer.old) (W.contents writer.new)) result }
+    ensures comes { Comes (PlaysOn P.replies P.frames player.old text.now player.new
+        (W.contents writer.old) (W.contents writer.new))
+        (λ end. EndsHere P.refuses player.old text.now player.new number at end
+        (W.contents writer.old) (W.contents writer.new)) result }
     ensures refused { result ≡ Ok (Some (Refused NoMemory)) → P.wants }
     ensures denied { IsErrOf result PlayFault.Memory → SomeWasRefused }
     ensures long { IsErrOf result PlayFault.TooLong → ⊥ }

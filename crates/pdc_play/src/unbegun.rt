@@ -17,7 +17,8 @@ use std::io::Write;
 /// A failure of the writer.
 #[tactic(auto, using(crate::proofs::Appending::appends_kept))]
 pub fn tell_unbegun<W: Write>(fault: Fault, writer: &mut W) -> Result<Ending, PlayFault>
-    ensures line { OnOk result (Appends (W.contents writer.old) (W.contents writer.new) (printed.fault_line fault 0)) }
+    ensures line { OnOk result (Appends (W.contents writer.old) (W.contents writer.new)
+        (printed.fault_line fault 0)) }
     ensures ending { IfOk result (λ end. end ≡ Refused fault) }
     ensures memory { IsErrOf result PlayFault.Memory → ⊥ }
 {

@@ -14,4 +14,4 @@ pub use numbered::Numbered;
 pub use pdc_arrival::{Counts, MAX_PMUS, Outcome, Refusal};
 pub use sink::{MemorySink, Sink, SinkFault};
 pub use source::{Next, Source};
-pub use ticker::{Did, Ticker, Told};
+pub use ticker::{Did, Progress, Ticker};

@@ -24,8 +24,10 @@ pub trait Sink {
     ///
     /// [`SinkFault`] where its device failed, or it has no memory.
     fn send(&mut self, bytes: &[u8]) -> Result<(), SinkFault>
-        ensures ok { OnOk result ((before : Self) (given : List (List ℕ)) → took before self.old given → took before self.new (given ++ bytes.now ∷ [])) }
-        ensures err { OnErr result ((before : Self) (given : List (List ℕ)) → took before self.old given → took before self.new given) }
+        ensures ok { OnOk result ((before : Self) (given : List (List ℕ)) →
+            took before self.old given → took before self.new (given ++ bytes.now ∷ [])) }
+        ensures err { OnErr result ((before : Self) (given : List (List ℕ)) →
+            took before self.old given → took before self.new given) }
         ensures cause { OnErr result (HasRisen (failures_of self.old) (failures_of self.new)) }
         ensures more { failures_of self.old ≤ failures_of self.new };
 
@@ -58,8 +60,10 @@ impl MemorySink {
 
     /// Keeps a copy of the bytes.
     fn keep(&mut self, bytes: &[u8]) -> Result<(), AllocError>
-        ensures ok { OnOk result (map (λ frame. frame.items) self.new.frames.items ≡ map (λ frame. frame.items) self.old.frames.items ++ bytes.now ∷ []) }
-        ensures err { OnErr result (map (λ frame. frame.items) self.new.frames.items ≡ map (λ frame. frame.items) self.old.frames.items) }
+        ensures ok { OnOk result (map (λ frame. frame.items) self.new.frames.items ≡
+            map (λ frame. frame.items) self.old.frames.items ++ bytes.now ∷ []) }
+        ensures err { OnErr result (map (λ frame. frame.items) self.new.frames.items ≡
+            map (λ frame. frame.items) self.old.frames.items) }
         ensures failures { self.new.failures ≡ self.old.failures }
     {
         let mut copy = Vec::new(self.alloc);
@@ -74,7 +78,8 @@ impl Sink for MemorySink {
     ghost use Rattle.std.proofs.Common.{sym};
     ghost use Rattle.std.proofs.lemmas.List.{append-nil};
 
-    ghost took = { λ before now given. map (λ frame. frame.items) now.frames.items ≡ map (λ frame. frame.items) before.frames.items ++ given };
+    ghost took = { λ before now given. map (λ frame. frame.items) now.frames.items ≡
+        map (λ frame. frame.items) before.frames.items ++ given };
 
     ghost nothing = { λ s. sym (append-nil (map (λ frame. frame.items) s.frames.items)) };
 

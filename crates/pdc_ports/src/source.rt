@@ -40,12 +40,15 @@ pub trait Source {
     /// The next datagram, written to the front of the buffer.
     fn next(&mut self, buffer: &mut [u8]) -> Next
         ensures kept { length buffer.new ≡ length buffer.old }
-        ensures tells { (heard : List Heard) → told self.old heard → told self.new (heard ++ heard_by result buffer.new ∷ []) }
-        ensures answers { (answers : List Answer) → was_answered self.old answers → was_answered self.new answers }
+        ensures tells { (heard : List Heard) → told self.old heard →
+            told self.new (heard ++ heard_by result buffer.new ∷ []) }
+        ensures answers { (answers : List Answer) → was_answered self.old answers →
+            was_answered self.new answers }
         ensures more { failures_of self.old ≤ failures_of self.new }
         ensures datagram { (n : ℕ) → result ≡ Next.Datagram n → n ≤ length buffer.new }
         ensures row { (n : ℕ) → result ≡ Next.Datagram n → row_left self.new < row_left self.old }
-        ensures fault { result ≡ Next.Fault → HasRisen (failures_of self.old) (failures_of self.new) };
+        ensures fault { result ≡ Next.Fault →
+            HasRisen (failures_of self.old) (failures_of self.new) };
 
     /// Takes how the datagram was answered that it gave last, with the number of its step; none where it was not, for want of memory or of
     /// room in a counter, and then nothing more is asked of it. A source that wants to know nothing of it does nothing.
@@ -65,7 +68,8 @@ pub trait Source {
     /// it over.
     fn whole(&mut self)
         ensures tells { (heard : List Heard) → told self.old heard → told self.new heard }
-        ensures answers { (answers : List Answer) → was_answered self.old answers → was_answered self.new answers }
+        ensures answers { (answers : List Answer) → was_answered self.old answers →
+            was_answered self.new answers }
         ensures failures { failures_of self.old ≤ failures_of self.new }
         ensures row { row_left self.new ≤ row_left self.old }
     {}

@@ -5,7 +5,7 @@ use pdc_arrival::{Counts, MAX_PMUS};
 
 /// How a run stands once all rows of a tick were published.
 #[derive(Clone, Copy, Debug)]
-pub struct Told {
+pub struct Progress {
     /// How arrivals were answered since the core was opened.
     pub counts: Counts,
     /// How many rows were published in this run so far.
@@ -50,7 +50,8 @@ pub trait Ticker {
 
     /// The instant that is now, at the next tick; none at the end.
     fn next(&mut self) -> Option<u64>
-        ensures some { IfSome result (λ now. (nows : List ℕ) → gave self.old nows → gave self.new (nows ++ now ∷ [])) }
+        ensures some { IfSome result (λ now. (nows : List ℕ) → gave self.old nows →
+            gave self.new (nows ++ now ∷ [])) }
         ensures none { IfNone result ((nows : List ℕ) → gave self.old nows → gave self.new nows) };
 
     /// Takes what the aligner did, with the number of the step: how many steps the life had before it. A ticker that wants to know nothing of
@@ -65,7 +66,7 @@ pub trait Ticker {
     }
 
     /// Takes how the run stands. Whoever calls it waits for its return: no tick comes before.
-    fn tell(&mut self, _told: &Told)
+    fn tell(&mut self, _told: &Progress)
         ensures { (nows : List ℕ) → gave self.old nows → gave self.new nows }
     {}
 }

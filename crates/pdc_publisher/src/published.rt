@@ -27,7 +27,8 @@ pub struct Published {
 /// blocks.
 pub fn spare_frame(output: &Output) -> Published
     ensures output { result.output ≡ output.now }
-    ensures frame { IsRowFrame result.instant result.start result.change result.bytes.items output.now no_row }
+    ensures frame { IsRowFrame result.instant result.start result.change result.bytes.items
+        output.now no_row }
 {
     let row = DueRow {
         instant: 0,
@@ -43,7 +44,8 @@ pub fn spare_frame(output: &Output) -> Published
 pub fn frame_of(output: &Output, row: &DueRow) -> Published
     requires { row.now.instant < SECONDS * output.now.rate }
     ensures output { result.output ≡ output.now }
-    ensures frame { IsRowFrame result.instant result.start result.change result.bytes.items output.now (row_view row.now) }
+    ensures frame { IsRowFrame result.instant result.start result.change result.bytes.items
+        output.now (row_view row.now) }
 {
     let mut bytes = ArrayVec::new();
     append_row(output, row, &mut bytes).unwrap();
@@ -60,7 +62,8 @@ pub fn frame_of(output: &Output, row: &DueRow) -> Published
 pub fn write_over(output: &Output, row: &DueRow, frame: &mut Published)
     requires { row.now.instant < SECONDS * output.now.rate }
     ensures output { frame.new.output ≡ output.now }
-    ensures frame { IsRowFrame frame.new.instant frame.new.start frame.new.change frame.new.bytes.items output.now (row_view row.now) }
+    ensures frame { IsRowFrame frame.new.instant frame.new.start frame.new.change
+        frame.new.bytes.items output.now (row_view row.now) }
 {
     write_row(output, row, &mut frame.bytes);
     frame.output = *output;

@@ -1,5 +1,6 @@
 //! The publisher of one concentrator.
-ghost use Rattle.std.specs.Prelude.{◌≡◌, ◌⊎◌, ◌+◌, ◌*◌, ◌<◌, ◌≤◌, ◌++◌, true, false, length, IsTrue, IsErrOf, IfOk, IfErr, OnOk, OnErr};
+ghost use Rattle.std.specs.Prelude.{◌≡◌, ◌⊎◌, ◌+◌, ◌*◌, ◌<◌, ◌≤◌, ◌++◌, true, false, length};
+ghost use Rattle.std.specs.Prelude.{IsTrue, IsErrOf, IfOk, IfErr, OnOk, OnErr};
 ghost use Rattle.pdc_frame.specs.declared.tag_limits.TheConstants.{SECONDS};
 ghost use Rattle.pdc_disk.specs.Disk.{HasFailed};
 ghost use Rattle.pdc_mark.specs.Counts.{IsGreater, raised_to};
@@ -34,7 +35,8 @@ pub struct Publisher<M: Mark> {
 }
 
 impl<M: Mark> Publisher<M> {
-    ghost use Rattle.pdc_publisher.specs.Publisher.{has_failed_in, last_in, lead_in, mark_in, output_in};
+    ghost use Rattle.pdc_publisher.specs.Publisher.{has_failed_in, last_in, lead_in, mark_in};
+    ghost use Rattle.pdc_publisher.specs.Publisher.{output_in};
 
     /// A publisher over this mark. Where a row's instant is above the stored floor, it reserves so many instants behind it.
     pub fn new(mark: M, output: Output, lead: u16) -> Publisher<M>
@@ -104,22 +106,29 @@ impl<M: Mark> Publisher<M> {
     ///
     /// `Device`, from then on by each call that publishes, and by each that raises where something is to be stored.
     pub fn raise(&mut self, waiting: &[u16; COUNTS]) -> Result<(), MarkFault>
-        ensures ok { OnOk result (M.stored (mark_in self.new) ≡ with_waiting waiting.now (M.stored (mark_in self.old))) }
-        ensures greater { OnOk result (IsGreater (M.stored (mark_in self.old)).counts waiting.now (M.stored (mark_in self.new)).counts) }
+        ensures ok { OnOk result (M.stored (mark_in self.new) ≡
+            with_waiting waiting.now (M.stored (mark_in self.old))) }
+        ensures greater { OnOk result (IsGreater (M.stored (mark_in self.old)).counts waiting.now
+            (M.stored (mark_in self.new)).counts) }
         ensures err { OnErr result (M.stored (mark_in self.new) ≡ M.stored (mark_in self.old)) }
-        ensures spared { (M.stored (mark_in self.old)).counts ≡ raised_to (M.stored (mark_in self.old)).counts waiting.now
+        ensures spared { (M.stored (mark_in self.old)).counts ≡
+            raised_to (M.stored (mark_in self.old)).counts waiting.now
             → (mark_in self.new ≡ mark_in self.old) × OnErr result ⊥ }
         ensures faults { OnErr result (IsErrOf result MarkFault.Device) }
         ensures device { OnErr result (has_failed_in self.new ≡ true) }
         ensures works { OnOk result (has_failed_in self.new ≡ has_failed_in self.old) }
-        ensures cause { ((M.stored (mark_in self.old)).counts ≡ raised_to (M.stored (mark_in self.old)).counts waiting.now → ⊥)
+        ensures cause { ((M.stored (mark_in self.old)).counts ≡
+            raised_to (M.stored (mark_in self.old)).counts waiting.now → ⊥)
             → HasDeviceCause (M.is_broken (mark_in self.old)) (M.is_broken (mark_in self.new))
             (M.failures (mark_in self.old)) (M.failures (mark_in self.new)) result }
-        ensures broken { OnErr result (IsTrue (M.is_broken (mark_in self.old)) ⊎ HasFailed (M.failures (mark_in self.old)) (M.failures (mark_in self.new))) }
-        ensures mark { OnOk result (M.is_broken (mark_in self.new) ≡ M.is_broken (mark_in self.old)) }
+        ensures broken { OnErr result (IsTrue (M.is_broken (mark_in self.old)) ⊎ HasFailed
+            (M.failures (mark_in self.old)) (M.failures (mark_in self.new))) }
+        ensures mark { OnOk result (M.is_broken (mark_in self.new) ≡
+            M.is_broken (mark_in self.old)) }
         ensures failures { M.failures (mark_in self.old) ≤ M.failures (mark_in self.new) }
         ensures safe { M.is_safe → OnErr result ⊥ }
-        ensures kept { (output_in self.new ≡ output_in self.old) × (lead_in self.new ≡ lead_in self.old) × (last_in self.new ≡ last_in self.old) }
+        ensures kept { (output_in self.new ≡ output_in self.old)
+            × (lead_in self.new ≡ lead_in self.old) × (last_in self.new ≡ last_in self.old) }
     {
         let raised = self.mark.raise_to(waiting);
         if raised.is_err() {
@@ -131,16 +140,21 @@ impl<M: Mark> Publisher<M> {
     /// Stores the floor that the instant needs: itself and the instants reserved behind it, where it is above the floor.
     fn reserve(&mut self, instant: u64) -> Result<(), MarkFault>
         requires { instant < SECONDS * (output_in self.old).rate }
-        ensures ok { OnOk result (M.stored (mark_in self.new) ≡ with_instant (lead_in self.old) instant (M.stored (mark_in self.old))) }
+        ensures ok { OnOk result (M.stored (mark_in self.new) ≡
+            with_instant (lead_in self.old) instant (M.stored (mark_in self.old))) }
         ensures err { OnErr result (M.stored (mark_in self.new) ≡ M.stored (mark_in self.old)) }
-        ensures spared { instant ≤ (M.stored (mark_in self.old)).floor → (mark_in self.new ≡ mark_in self.old) × OnErr result ⊥ }
+        ensures spared { instant ≤ (M.stored (mark_in self.old)).floor →
+            (mark_in self.new ≡ mark_in self.old) × OnErr result ⊥ }
         ensures failed { OnErr result (has_failed_in self.new ≡ true) }
         ensures works { OnOk result (has_failed_in self.new ≡ has_failed_in self.old) }
-        ensures cause { OnErr result (IsTrue (M.is_broken (mark_in self.old)) ⊎ HasFailed (M.failures (mark_in self.old)) (M.failures (mark_in self.new))) }
+        ensures cause { OnErr result (IsTrue (M.is_broken (mark_in self.old)) ⊎ HasFailed
+            (M.failures (mark_in self.old)) (M.failures (mark_in self.new))) }
         ensures failures { M.failures (mark_in self.old) ≤ M.failures (mark_in self.new) }
-        ensures mark { OnOk result (M.is_broken (mark_in self.new) ≡ M.is_broken (mark_in self.old)) }
+        ensures mark { OnOk result (M.is_broken (mark_in self.new) ≡
+            M.is_broken (mark_in self.old)) }
         ensures safe { M.is_safe → OnErr result ⊥ }
-        ensures kept { (output_in self.new ≡ output_in self.old) × (lead_in self.new ≡ lead_in self.old) × (last_in self.new ≡ last_in self.old) }
+        ensures kept { (output_in self.new ≡ output_in self.old)
+            × (lead_in self.new ≡ lead_in self.old) × (last_in self.new ≡ last_in self.old) }
     {
         let stored = self.mark.reserve_for(instant, self.lead);
         if stored.is_err() {
@@ -164,39 +178,53 @@ impl<M: Mark> Publisher<M> {
         requires above { last_in self.old < row.instant }
         requires instant { row.instant < SECONDS * (output_in self.old).rate }
         // The frame of the row is appended,
-        ensures ok { OnOk result (B.content out.new ≡ B.content out.old ++ wire_of (output_in self.old) (row_view row)) }
+        ensures ok { OnOk result (B.content out.new ≡ B.content out.old ++
+            wire_of (output_in self.old) (row_view row)) }
         // and handed on.
-        ensures published { IfOk result (λ p. IsRowFrame p.instant p.start p.change p.bytes.items (output_in self.old) (row_view row)) }
+        ensures published { IfOk result (λ p. IsRowFrame p.instant p.start p.change p.bytes.items
+            (output_in self.old) (row_view row)) }
         ensures output { IfOk result (λ p. p.output ≡ output_in self.old) }
         // Its instant was reserved before.
-        ensures stored { OnOk result (M.stored (mark_in self.new) ≡ with_instant (lead_in self.old) row.instant (M.stored (mark_in self.old))) }
+        ensures stored { OnOk result (M.stored (mark_in self.new) ≡
+            with_instant (lead_in self.old) row.instant (M.stored (mark_in self.old))) }
         ensures covered { OnOk result (row.instant ≤ (M.stored (mark_in self.new)).floor) }
         ensures last { OnOk result (last_in self.new ≡ row.instant) }
         // Below the floor, no device call is made.
-        ensures spared { row.instant ≤ (M.stored (mark_in self.old)).floor → mark_in self.new ≡ mark_in self.old }
+        ensures spared { row.instant ≤ (M.stored (mark_in self.old)).floor →
+            mark_in self.new ≡ mark_in self.old }
         // A row that is not published leaves all as it was,
         ensures err { OnErr result ((B.content out.new ≡ B.content out.old)
-            × (M.stored (mark_in self.new) ≡ M.stored (mark_in self.old)) × (last_in self.new ≡ last_in self.old)) }
+            × (M.stored (mark_in self.new) ≡ M.stored (mark_in self.old))
+            × (last_in self.new ≡ last_in self.old)) }
         // and comes back where memory was wanted: then the publisher is the one before.
         ensures no_memory { IfErr result (HandsBack (row_view row)) }
         ensures untouched { IfErr result (λ fault. (IsDevice fault → ⊥) → self.new ≡ self.old) }
         // A request for the whole frame was refused.
-        ensures refused { IfErr result (λ fault. (IsDevice fault → ⊥) → B.refused out.new (length (wire_of (output_in self.old) (row_view row)))) }
-        ensures room { length (B.content out.old) + length (wire_of (output_in self.old) (row_view row)) ≤ B.capacity out.old → IfErr result IsDevice }
-        ensures in_place { length (B.content out.old) + length (wire_of (output_in self.old) (row_view row)) ≤ B.capacity out.old
+        ensures refused { IfErr result (λ fault. (IsDevice fault → ⊥) →
+            B.refused out.new (length (wire_of (output_in self.old) (row_view row)))) }
+        ensures room { length (B.content out.old) +
+            length (wire_of (output_in self.old) (row_view row)) ≤ B.capacity out.old →
+            IfErr result IsDevice }
+        ensures in_place { length (B.content out.old) +
+            length (wire_of (output_in self.old) (row_view row)) ≤ B.capacity out.old
             → B.capacity out.new ≡ B.capacity out.old }
         // A device fault stands, and has its cause.
         ensures device { IfErr result (λ fault. IsDevice fault → has_failed_in self.new ≡ true) }
         ensures cause { IfErr result (λ fault. IsDevice fault → (has_failed_in self.old ≡ true)
-            ⊎ (IsTrue (M.is_broken (mark_in self.old)) ⊎ HasFailed (M.failures (mark_in self.old)) (M.failures (mark_in self.new)))) }
+            ⊎ (IsTrue (M.is_broken (mark_in self.old)) ⊎ HasFailed (M.failures (mark_in self.old))
+            (M.failures (mark_in self.new)))) }
         // No failure is forgotten, and a mark is broken after it only where it was before.
         ensures failures { M.failures (mark_in self.old) ≤ M.failures (mark_in self.new) }
-        ensures mark { OnOk result (M.is_broken (mark_in self.new) ≡ M.is_broken (mark_in self.old)) }
+        ensures mark { OnOk result (M.is_broken (mark_in self.new) ≡
+            M.is_broken (mark_in self.old)) }
         ensures failed { has_failed_in self.old ≡ true → IfErr result IsDevice × OnOk result ⊥ }
         ensures works { OnOk result (has_failed_in self.new ≡ false) }
-        ensures safe { M.is_safe → has_failed_in self.old ≡ false → IfErr result (λ fault. IsDevice fault → ⊥) }
-        ensures needed { row.instant ≤ (M.stored (mark_in self.old)).floor → has_failed_in self.old ≡ false → IfErr result (λ fault. IsDevice fault → ⊥) }
-        ensures kept { (output_in self.new ≡ output_in self.old) × (lead_in self.new ≡ lead_in self.old) }
+        ensures safe { M.is_safe → has_failed_in self.old ≡ false →
+            IfErr result (λ fault. IsDevice fault → ⊥) }
+        ensures needed { row.instant ≤ (M.stored (mark_in self.old)).floor →
+            has_failed_in self.old ≡ false → IfErr result (λ fault. IsDevice fault → ⊥) }
+        ensures kept { (output_in self.new ≡ output_in self.old)
+            × (lead_in self.new ≡ lead_in self.old) }
     {
         if self.has_failed {
             return Err(PublishFault::Device);
@@ -225,29 +253,37 @@ impl<M: Mark> Publisher<M> {
         requires instant { row.now.instant < SECONDS * (output_in self.old).rate }
         // The frame is that of the row.
         ensures output { OnOk result (frame.new.output ≡ output_in self.old) }
-        ensures ok { OnOk result (IsRowFrame frame.new.instant frame.new.start frame.new.change frame.new.bytes.items (output_in self.old) (row_view row.now)) }
+        ensures ok { OnOk result (IsRowFrame frame.new.instant frame.new.start frame.new.change
+            frame.new.bytes.items (output_in self.old) (row_view row.now)) }
         // Its instant was reserved before.
-        ensures stored { OnOk result (M.stored (mark_in self.new) ≡ with_instant (lead_in self.old) row.now.instant (M.stored (mark_in self.old))) }
+        ensures stored { OnOk result (M.stored (mark_in self.new) ≡
+            with_instant (lead_in self.old) row.now.instant (M.stored (mark_in self.old))) }
         ensures covered { OnOk result (row.now.instant ≤ (M.stored (mark_in self.new)).floor) }
         ensures last { OnOk result (last_in self.new ≡ row.now.instant) }
         // Below the floor, no device call is made.
-        ensures spared { row.now.instant ≤ (M.stored (mark_in self.old)).floor → mark_in self.new ≡ mark_in self.old }
+        ensures spared { row.now.instant ≤ (M.stored (mark_in self.old)).floor →
+            mark_in self.new ≡ mark_in self.old }
         // A row that is not published leaves all as it was.
         ensures err { OnErr result ((frame.new ≡ frame.old)
-            × (M.stored (mark_in self.new) ≡ M.stored (mark_in self.old)) × (last_in self.new ≡ last_in self.old)) }
+            × (M.stored (mark_in self.new) ≡ M.stored (mark_in self.old))
+            × (last_in self.new ≡ last_in self.old)) }
         ensures faults { OnErr result (IsErrOf result MarkFault.Device) }
         // A device fault stands, and has its cause.
         ensures device { OnErr result (has_failed_in self.new ≡ true) }
         ensures cause { OnErr result ((has_failed_in self.old ≡ true)
-            ⊎ (IsTrue (M.is_broken (mark_in self.old)) ⊎ HasFailed (M.failures (mark_in self.old)) (M.failures (mark_in self.new)))) }
+            ⊎ (IsTrue (M.is_broken (mark_in self.old)) ⊎ HasFailed (M.failures (mark_in self.old))
+            (M.failures (mark_in self.new)))) }
         // No failure is forgotten, and a mark is broken after it only where it was before.
         ensures failures { M.failures (mark_in self.old) ≤ M.failures (mark_in self.new) }
-        ensures mark { OnOk result (M.is_broken (mark_in self.new) ≡ M.is_broken (mark_in self.old)) }
+        ensures mark { OnOk result (M.is_broken (mark_in self.new) ≡
+            M.is_broken (mark_in self.old)) }
         ensures failed { has_failed_in self.old ≡ true → OnOk result ⊥ }
         ensures works { OnOk result (has_failed_in self.new ≡ false) }
         ensures safe { M.is_safe → has_failed_in self.old ≡ false → OnErr result ⊥ }
-        ensures needed { row.now.instant ≤ (M.stored (mark_in self.old)).floor → has_failed_in self.old ≡ false → OnErr result ⊥ }
-        ensures kept { (output_in self.new ≡ output_in self.old) × (lead_in self.new ≡ lead_in self.old) }
+        ensures needed { row.now.instant ≤ (M.stored (mark_in self.old)).floor →
+            has_failed_in self.old ≡ false → OnErr result ⊥ }
+        ensures kept { (output_in self.new ≡ output_in self.old)
+            × (lead_in self.new ≡ lead_in self.old) }
     {
         if self.has_failed {
             return Err(MarkFault::Device);

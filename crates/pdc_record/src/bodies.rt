@@ -50,7 +50,8 @@ pub(crate) fn rest_of<'a>(what: &What<'a>) -> &'a [u8]
 }
 
 fn read_arrived(body: &[u8]) -> Option<What<'_>>
-    ensures { MatchOption result ((told : Told) → IsTold 1 body.now told → ⊥) (λ what. IsTold 1 body.now (told_of what)) }
+    ensures { MatchOption result ((told : Told) → IsTold 1 body.now told →
+        ⊥) (λ what. IsTold 1 body.now (told_of what)) }
 {
     if body.len() < ARRIVED_LEN {
         return None;
@@ -66,7 +67,8 @@ fn read_arrived(body: &[u8]) -> Option<What<'_>>
 }
 
 fn read_unanswered(body: &[u8]) -> Option<What<'_>>
-    ensures { MatchOption result ((told : Told) → IsTold 2 body.now told → ⊥) (λ what. IsTold 2 body.now (told_of what)) }
+    ensures { MatchOption result ((told : Told) → IsTold 2 body.now told →
+        ⊥) (λ what. IsTold 2 body.now (told_of what)) }
 {
     if body.len() < UNANSWERED_LEN {
         return None;
@@ -77,7 +79,8 @@ fn read_unanswered(body: &[u8]) -> Option<What<'_>>
 
 /// The change number and whether none was left, by FLAGS and CHANGE.
 fn change_of(flags: u8, change: u32) -> Option<(Option<u32>, bool)>
-    ensures { MatchOption result ((number : Option ℕ) (used_up : Bool) → flags ≡ flags_of number used_up → change ≡ change_number number → ⊥)
+    ensures { MatchOption result ((number : Option ℕ) (used_up : Bool) →
+        flags ≡ flags_of number used_up → change ≡ change_number number → ⊥)
         (λ x. (flags ≡ flags_of x.0 x.1) × (change ≡ change_number x.0)) }
 {
     match flags {
@@ -90,7 +93,8 @@ fn change_of(flags: u8, change: u32) -> Option<(Option<u32>, bool)>
 }
 
 fn read_ticked(body: &[u8]) -> Option<What<'_>>
-    ensures { MatchOption result ((told : Told) → IsTold 3 body.now told → ⊥) (λ what. IsTold 3 body.now (told_of what)) }
+    ensures { MatchOption result ((told : Told) → IsTold 3 body.now told →
+        ⊥) (λ what. IsTold 3 body.now (told_of what)) }
 {
     if body.len() != TICKED_LEN {
         return None;
@@ -113,7 +117,8 @@ fn read_ticked(body: &[u8]) -> Option<What<'_>>
 }
 
 fn read_found_none(body: &[u8]) -> Option<What<'_>>
-    ensures { MatchOption result ((told : Told) → IsTold 4 body.now told → ⊥) (λ what. IsTold 4 body.now (told_of what)) }
+    ensures { MatchOption result ((told : Told) → IsTold 4 body.now told →
+        ⊥) (λ what. IsTold 4 body.now (told_of what)) }
 {
     if !body.is_empty() {
         return None;
@@ -122,7 +127,8 @@ fn read_found_none(body: &[u8]) -> Option<What<'_>>
 }
 
 fn read_popped(body: &[u8]) -> Option<What<'_>>
-    ensures { MatchOption result ((told : Told) → IsTold 5 body.now told → ⊥) (λ what. IsTold 5 body.now (told_of what)) }
+    ensures { MatchOption result ((told : Told) → IsTold 5 body.now told →
+        ⊥) (λ what. IsTold 5 body.now (told_of what)) }
 {
     if body.len() < POPPED_LEN {
         return None;
@@ -138,7 +144,8 @@ fn read_popped(body: &[u8]) -> Option<What<'_>>
 }
 
 fn read_missing(body: &[u8]) -> Option<What<'_>>
-    ensures { MatchOption result ((told : Told) → IsTold 7 body.now told → ⊥) (λ what. IsTold 7 body.now (told_of what)) }
+    ensures { MatchOption result ((told : Told) → IsTold 7 body.now told →
+        ⊥) (λ what. IsTold 7 body.now (told_of what)) }
 {
     if body.len() != MISSING_LEN {
         return None;
@@ -148,7 +155,8 @@ fn read_missing(body: &[u8]) -> Option<What<'_>>
 }
 
 fn read_no_frame(body: &[u8]) -> Option<What<'_>>
-    ensures { MatchOption result ((told : Told) → IsTold 8 body.now told → ⊥) (λ what. IsTold 8 body.now (told_of what)) }
+    ensures { MatchOption result ((told : Told) → IsTold 8 body.now told →
+        ⊥) (λ what. IsTold 8 body.now (told_of what)) }
 {
     if body.len() < NO_FRAME_LEN {
         return None;
@@ -167,7 +175,8 @@ fn read_no_frame(body: &[u8]) -> Option<What<'_>>
 
 /// What the body of an entry of this kind says, however long its last part is.
 fn read_body(kind: u8, body: &[u8]) -> Option<What<'_>>
-    ensures { MatchOption result ((told : Told) → IsTold kind body.now told → ⊥) (λ what. IsTold kind body.now (told_of what)) }
+    ensures { MatchOption result ((told : Told) → IsTold kind body.now told →
+        ⊥) (λ what. IsTold kind body.now (told_of what)) }
 {
     match kind {
         0 => match read_begun(body) {
@@ -188,8 +197,10 @@ fn read_body(kind: u8, body: &[u8]) -> Option<What<'_>>
 
 /// What the body of an entry of this kind says.
 pub(crate) fn read_what(kind: u8, body: &[u8]) -> Option<What<'_>>
-    ensures { MatchOption result ((told : Told) → IsTold kind body.now told → length (rest_of told) ≤ MAX_REST → ⊥)
-        (λ what. IsTold kind body.now (told_of what) × (length (rest_of (told_of what)) ≤ MAX_REST)) }
+    ensures { MatchOption result ((told : Told) → IsTold kind body.now told →
+        length (rest_of told) ≤ MAX_REST → ⊥)
+        (λ what. IsTold kind body.now (told_of what)
+        × (length (rest_of (told_of what)) ≤ MAX_REST)) }
 {
     let what = read_body(kind, body)?;
     if rest_of(&what).len() > MAX_REST {

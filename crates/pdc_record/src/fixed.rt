@@ -46,7 +46,8 @@ fn arrived_bytes(stream: u16, outcome: Outcome) -> [u8; ARRIVED_LEN]
 }
 
 fn no_frame_bytes(stream: u16, outcome: Outcome, len: u32) -> [u8; NO_FRAME_LEN]
-    ensures value { result ≡ to_be_bytes w16 stream ++ (answer_number outcome ∷ to_be_bytes w32 len) }
+    ensures value { result ≡ to_be_bytes w16 stream ++
+        (answer_number outcome ∷ to_be_bytes w32 len) }
     ensures len { len < 2 ^ 32 }
 {
     let mut fixed = [0; NO_FRAME_LEN];
@@ -70,7 +71,8 @@ fn flags_of(change: Option<u32>, used_up: bool) -> u8
 
 /// CLOSED, FLAGS and CHANGE of a tick.
 fn tick_bytes(closed: u32, change: Option<u32>, used_up: bool) -> [u8; TICKED_BACK]
-    ensures value { result ≡ to_be_bytes w32 closed ++ (flags_of change used_up ∷ to_be_bytes w32 (change_number change)) }
+    ensures value { result ≡ to_be_bytes w32 closed ++
+        (flags_of change used_up ∷ to_be_bytes w32 (change_number change)) }
     ensures closed { closed < 2 ^ 32 }
     ensures change { change_number change < 2 ^ 32 }
 {
@@ -91,8 +93,10 @@ fn popped_bytes(instant: u64, flag: u8) -> [u8; POPPED_LEN]
 }
 
 fn append_begun<B: Buffer>(begun: &Begun<'_>, out: &mut B)
-    requires { length (B.content out.old) + length (fixed_of (Began (start_of begun.now))) ≤ B.capacity out.old }
-    ensures bytes { B.content out.new ≡ B.content out.old ++ fixed_of (Began (start_of begun.entry.now)) }
+    requires { length (B.content out.old) +
+        length (fixed_of (Began (start_of begun.now))) ≤ B.capacity out.old }
+    ensures bytes { B.content out.new ≡ B.content out.old ++
+        fixed_of (Began (start_of begun.entry.now)) }
     ensures fits { FitsStart (start_of begun.entry.now) }
     ensures in_place { B.capacity out.new ≡ B.capacity out.old }
 {
@@ -103,7 +107,8 @@ fn append_begun<B: Buffer>(begun: &Begun<'_>, out: &mut B)
 
 /// Appends the fixed part, for which there is room.
 pub(crate) fn append_fixed<B: Buffer>(what: &What<'_>, out: &mut B)
-    requires { length (B.content out.old) + length (fixed_of (told_of what.now)) ≤ B.capacity out.old }
+    requires { length (B.content out.old) +
+        length (fixed_of (told_of what.now)) ≤ B.capacity out.old }
     ensures bytes { B.content out.new ≡ B.content out.old ++ fixed_of (told_of what.now) }
     ensures fits { FitsWidths (told_of what.now) }
     ensures in_place { B.capacity out.new ≡ B.capacity out.old }

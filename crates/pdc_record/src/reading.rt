@@ -2,7 +2,8 @@
 ghost use Rattle.std.specs.Prelude.{◌≡◌, ◌+◌, ◌≤◌, length, IfOk, IfErr, IsOkAnd, MatchOption};
 ghost use Rattle.pdc_frame.specs.Bytes.{long_at};
 ghost use Rattle.pdc_record.specs.Told.{Fields, fields_of};
-ghost use Rattle.pdc_record.specs.Entries.{Begins, IsFirstCause, IsSaid, IsSizeCause, IsWhole, spelling_of};
+ghost use Rattle.pdc_record.specs.Entries.{Begins, IsFirstCause, IsSaid, IsSizeCause, IsWhole};
+ghost use Rattle.pdc_record.specs.Entries.{spelling_of};
 
 use crate::bodies::read_what;
 use crate::entry::Entry;
@@ -43,7 +44,8 @@ fn whole_len(bytes: &[u8]) -> Result<usize, Unread>
 fn read_unchecked(bytes: &[u8]) -> Option<Entry<'_>>
     requires room { HEAD_LEN ≤ length bytes.now }
     requires len { long_at bytes.now 0 ≡ length bytes.now + CHECK_LEN }
-    ensures { MatchOption result ((f : Fields) → IsSaid bytes.now f → ⊥) (λ entry. IsSaid bytes.now (fields_of entry)) }
+    ensures { MatchOption result ((f : Fields) → IsSaid bytes.now f →
+        ⊥) (λ entry. IsSaid bytes.now (fields_of entry)) }
 {
     let (_, bytes) = split_long(bytes);
     let (kind, bytes) = split_byte(bytes);
@@ -60,9 +62,11 @@ fn read_unchecked(bytes: &[u8]) -> Option<Entry<'_>>
 /// The first cause that holds, in the order of [`Unread`]: a LEN out of its range, or a body that says nothing, is [`Unread::NoEntry`].
 pub fn read_entry(bytes: &[u8]) -> Result<(Entry<'_>, usize), Unread>
     // The bytes begin with what is read.
-    ensures found { IfOk result (λ x. Begins bytes.now (fields_of x.0) × (x.1 ≡ length (spelling_of (fields_of x.0)))) }
+    ensures found { IfOk result (λ x. Begins bytes.now (fields_of x.0)
+        × (x.1 ≡ length (spelling_of (fields_of x.0)))) }
     // What they begin with is read.
-    ensures only { (f : Fields) → Begins bytes.now f → IsOkAnd result (λ x. (fields_of x.0 ≡ f) × (x.1 ≡ length (spelling_of f))) }
+    ensures only { (f : Fields) → Begins bytes.now f →
+        IsOkAnd result (λ x. (fields_of x.0 ≡ f) × (x.1 ≡ length (spelling_of f))) }
     // Which cause it is.
     ensures fault { IfErr result (IsFirstCause bytes.now) }
 {

@@ -1,7 +1,8 @@
 //! The body of an entry that begins a record.
 ghost use Rattle.std.specs.Prelude.{◌≡◌, ◌^◌, ◌<◌, ◌≤◌, length, MatchOption};
 ghost use Rattle.pdc_record.specs.Told.{Began, Start, start_of};
-ghost use Rattle.pdc_record.specs.Bodies.{AreWords, IsTold, back_of, fixed_of, front_of, role_number, words_of};
+ghost use Rattle.pdc_record.specs.Bodies.{AreWords, IsTold, back_of, fixed_of, front_of};
+ghost use Rattle.pdc_record.specs.Bodies.{role_number, words_of};
 
 use crate::begun::{Begun, Role};
 use crate::limits::{BEGUN_BACK, BEGUN_FRONT, BEGUN_LEN, NOW_LEN, PROGRAM_LEN, VERSION};
@@ -79,7 +80,8 @@ pub(crate) fn back_bytes(begun: &Begun<'_>) -> [u8; BEGUN_BACK]
 
 /// What such a body says.
 pub(crate) fn read_begun(body: &[u8]) -> Option<Begun<'_>>
-    ensures { MatchOption result ((s : Start) → IsTold 0 body.now (Began s) → ⊥) (λ begun. IsTold 0 body.now (Began (start_of begun))) }
+    ensures { MatchOption result ((s : Start) → IsTold 0 body.now (Began s) →
+        ⊥) (λ begun. IsTold 0 body.now (Began (start_of begun))) }
 {
     if body.len() < BEGUN_LEN {
         return None;

@@ -1,5 +1,6 @@
 //! Entries are written.
-ghost use Rattle.std.specs.Prelude.{◌≡◌, ◌+◌, ◌^◌, ◌≤◌, ◌<◌, ◌∷◌, ◌++◌, ◌↔◌, length, OnOk, OnErr, IsOk, IsErrOf};
+ghost use Rattle.std.specs.Prelude.{◌≡◌, ◌+◌, ◌^◌, ◌≤◌, ◌<◌, ◌∷◌, ◌++◌, ◌↔◌, length, OnOk, OnErr};
+ghost use Rattle.std.specs.Prelude.{IsOk, IsErrOf};
 ghost use Rattle.std.specs.Int.{w32, w64, to_be_bytes};
 ghost use Rattle.pdc_record.specs.Told.{fields_of, told_of};
 ghost use Rattle.pdc_record.specs.Bodies.{rest_of};
@@ -32,7 +33,8 @@ pub fn entry_len(entry: &Entry<'_>) -> usize
 
 /// LEN, KIND, STEP and TIME.
 fn head_bytes(len: u32, kind: u8, step: u64, time: u64) -> [u8; HEAD_LEN]
-    ensures value { result ≡ to_be_bytes w32 len ++ (kind ∷ (to_be_bytes w64 step ++ to_be_bytes w64 time)) }
+    ensures value { result ≡ to_be_bytes w32 len ++
+        (kind ∷ (to_be_bytes w64 step ++ to_be_bytes w64 time)) }
     ensures len { length result ≡ HEAD_LEN }
     ensures step { step < 2 ^ 64 }
     ensures time { time < 2 ^ 64 }
@@ -52,16 +54,21 @@ fn head_bytes(len: u32, kind: u8, step: u64, time: u64) -> [u8; HEAD_LEN]
 /// The first cause that holds, in the order of [`WriteFault`].
 pub fn write_entry<B: Buffer>(entry: &Entry<'_>, out: &mut B) -> Result<(), WriteFault>
     // What is appended is the entry,
-    ensures ok { OnOk result (B.content out.new ≡ B.content out.old ++ spelling_of (fields_of entry.now)) }
+    ensures ok { OnOk result (B.content out.new ≡ B.content out.old ++
+        spelling_of (fields_of entry.now)) }
     // which is read back with these fields.
     ensures fits { OnOk result (Fits (fields_of entry.now)) }
     // It fails only for these causes, and then nothing is appended.
     ensures long { IsErrOf result TooLong ↔ (MAX_REST < length (rest_of (told_of entry.now.what))) }
-    ensures err { OnErr result ((B.content out.new ≡ B.content out.old) × (B.capacity out.new ≡ B.capacity out.old)) }
-    ensures room { length (B.content out.old) + length (spelling_of (fields_of entry.now)) ≤ B.capacity out.old
+    ensures err { OnErr result ((B.content out.new ≡ B.content out.old)
+        × (B.capacity out.new ≡ B.capacity out.old)) }
+    ensures room { length (B.content out.old) +
+        length (spelling_of (fields_of entry.now)) ≤ B.capacity out.old
         → length (rest_of (told_of entry.now.what)) ≤ MAX_REST → IsOk result }
     // Where there was room, it takes no memory.
-    ensures in_place { length (B.content out.old) + length (spelling_of (fields_of entry.now)) ≤ B.capacity out.old → B.capacity out.new ≡ B.capacity out.old }
+    ensures in_place { length (B.content out.old) +
+        length (spelling_of (fields_of entry.now)) ≤ B.capacity out.old →
+        B.capacity out.new ≡ B.capacity out.old }
     ensures capacity { B.capacity out.old ≤ B.capacity out.new }
 {
     let rest = rest_of(&entry.what);

@@ -55,7 +55,8 @@ impl<W: Write + Drop> Gathered<W> {
     /// The file cannot be written.
     pub fn flush(&mut self) -> io::Result<u64>
         // It stands behind what the file has, once, and nothing is left to be written.
-        ensures written { OnOk result (Appends (W.contents self.old.file) (W.contents self.new.file) self.old.bytes.items) }
+        ensures written { OnOk result (Appends (W.contents self.old.file)
+            (W.contents self.new.file) self.old.bytes.items) }
         ensures bytes { OnOk result (self.new.bytes.items ≡ []) }
         ensures all { OnOk result (Keeps (all_of (W.contents self.old.file) self.old.bytes.items)
             (all_of (W.contents self.new.file) self.new.bytes.items)) }

@@ -2,7 +2,8 @@
 ghost use Rattle.std.specs.Prelude.{◌≡◌, ◌⊎◌, None, Some, false, length, true};
 ghost use Rattle.std.specs.BTreeMap.{insert_entry};
 ghost use Rattle.std.specs.Ordering.{nat_cmp};
-ghost use Rattle.pdc_recording.specs.Ordering.{held_behind, is_awaited, is_let_through, key_of, next_behind, ready_of};
+ghost use Rattle.pdc_recording.specs.Ordering.{held_behind, is_awaited, is_let_through, key_of};
+ghost use Rattle.pdc_recording.specs.Ordering.{next_behind, ready_of};
 ghost use Rattle.pdc_recording.specs.declared.ordering.Ready.TheVariants.{Bytes};
 
 use crate::queue::{Position, Waiting};
@@ -63,7 +64,8 @@ impl Ordering {
             (result ≡ Some waiting.bytes) × (self.new.held.entries ≡ self.old.held.entries) }
         // For want of memory it is lacking.
         ensures held { is_let_through waiting.place self.old.next ≡ false →
-            (result ≡ None) × ((self.new.held.entries ≡ insert_entry nat_cmp self.old.held.entries (key_of waiting.place) waiting.bytes)
+            (result ≡ None) × ((self.new.held.entries ≡ insert_entry nat_cmp self.old.held.entries
+            (key_of waiting.place) waiting.bytes)
             ⊎ (self.new.held.entries ≡ self.old.held.entries)) }
         ensures next { self.new.next ≡ self.old.next }
     {

@@ -73,7 +73,8 @@ impl Queue {
 
     /// Adds an entry behind those that wait, and answers whether there was room; else it is passed over.
     pub fn add(&mut self, waiting: Waiting, is_lasting: bool) -> bool
-        ensures answer { result ≡ may_wait (length self.old.waiting.items) self.old.bytes (length waiting.bytes.items) is_lasting }
+        ensures answer { result ≡ may_wait (length self.old.waiting.items) self.old.bytes
+            (length waiting.bytes.items) is_lasting }
         ensures items { self.new.waiting.items ≡
             (if result then self.old.waiting.items ++ waiting ∷ [] else self.old.waiting.items) }
         ensures closed { self.new.is_closed ≡ self.old.is_closed }

@@ -3,7 +3,7 @@ ghost use Rattle.std.specs.Prelude.{◌≡◌, ℕ, List};
 
 use crate::recording::Recording;
 use crate::time::nanoseconds_now;
-use pdc_ports::{Did, Ticker, Told};
+use pdc_ports::{Did, Progress, Ticker};
 use pdc_record::{Entry, What};
 use std::rt::Clock;
 use std::sync::Wait;
@@ -74,7 +74,7 @@ impl<'a, K: Ticker + Drop, R: Wait + Clock> Ticker for RecordedTicker<'a, K, R> 
         self.inner.wants_counts()
     }
 
-    fn tell(&mut self, told: &Told) {
+    fn tell(&mut self, told: &Progress) {
         self.inner.tell(told);
     }
 }

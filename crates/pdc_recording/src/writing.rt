@@ -74,7 +74,8 @@ fn again_text(
 
 /// The bytes of the entry that steps are missing.
 fn gap_bytes(alloc: Global, from: u64, until: u64, time: u64) -> io::Result<Vec<u8>>
-    ensures { IfOk result (λ bytes. bytes.items ≡ spelling_of (record { step = from; time = time; told = Missing until })) }
+    ensures { IfOk result (λ bytes. bytes.items ≡
+        spelling_of (record { step = from; time = time; told = Missing until })) }
 {
     let entry = Entry {
         step: from,

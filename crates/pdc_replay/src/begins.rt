@@ -51,8 +51,10 @@ pub trait Begins: Opens {
     ///
     /// The text is no settings, or those of another id or rate, or there is no memory.
     fn begin(alloc: Global, begun: &Begun<'_>, text: &str) -> Result<Self, Unbegun>
-        ensures stands { IfOk result (λ core. Self.stands_for core (begun_with (Self.settings_of core)
-            begun.entry.now.start begun.entry.now.floor begun.entry.now.counts begun.entry.now.now) []) }
+        ensures stands { IfOk result (λ core. Self.stands_for core
+            (begun_with (Self.settings_of core)
+            begun.entry.now.start begun.entry.now.floor begun.entry.now.counts begun.entry.now.now)
+            []) }
         ensures popped { IfOk result (λ core. Self.popped_of core ≡ begun.entry.now.floor) };
 
     /// How many streams arrive.

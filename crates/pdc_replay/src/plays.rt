@@ -34,10 +34,13 @@ pub trait Plays {
     /// Why the replay halts.
     fn play(&mut self, entry: &Entry<'_>) -> Result<(), Halt>
         // It passes only where it says what the life does next. Steps from before the first one of a file are passed over or carried over.
-        ensures as_recorded { (g : Given) (E : List LifeEntry) → stands_for self.old g E → is_carried entry.now (next_of self.old) ≡ false →
-            OnOk result (Passes rules (Self.Settings.says (settings_of self.old)) g E (stands_for self.new g) entry.now.what) }
+        ensures as_recorded { (g : Given) (E : List LifeEntry) → stands_for self.old g E →
+            is_carried entry.now (next_of self.old) ≡ false →
+            OnOk result (Passes rules (Self.Settings.says (settings_of self.old)) g E
+            (stands_for self.new g) entry.now.what) }
         // A step that passes has the number of the next one.
-        ensures next { is_carried entry.now (next_of self.old) ≡ false → OnOk result (IsNumbered entry.now (next_of self.old)) }
+        ensures next { is_carried entry.now (next_of self.old) ≡ false →
+            OnOk result (IsNumbered entry.now (next_of self.old)) }
         ensures after { is_carried entry.now (next_of self.old) ≡ false →
             OnOk result (next_of self.new ≡ number_after entry.now.what (next_of self.old)) }
         ensures settings { settings_of self.new ≡ settings_of self.old };

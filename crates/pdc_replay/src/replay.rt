@@ -70,7 +70,8 @@ impl<C: Begins> Replay<C> {
         // It is at the start of the life that is given so much by its settings, and its next step has this number.
         ensures stands { IfOk result (λ replay. ⟦<Replay<C> as Plays>⟧.stands_for replay
             (C.begun_with (⟦<Replay<C> as Plays>⟧.settings_of replay)
-            begun.entry.now.start begun.entry.now.floor begun.entry.now.counts begun.entry.now.now) []) }
+            begun.entry.now.start begun.entry.now.floor begun.entry.now.counts begun.entry.now.now)
+            []) }
         ensures next { IfOk result (λ replay. ⟦<Replay<C> as Plays>⟧.next_of replay ≡ step) }
     {
         let life = Replayed::begin(alloc, begun, text)?;
@@ -142,8 +143,10 @@ impl<C: Begins> Replay<C> {
 
     /// Plays an entry at the front of a file; answers whether it is one that is carried over.
     fn play_front(&mut self, entry: &Entry<'_>) -> Result<bool, Halt>
-        ensures passes { is_carried entry.now self.old.next ≡ false → IfOk result (λ is_carried. is_carried ≡ false) }
-        ensures same { is_carried entry.now self.old.next ≡ false → self.new.life.core ≡ self.old.life.core }
+        ensures passes { is_carried entry.now self.old.next ≡ false →
+            IfOk result (λ is_carried. is_carried ≡ false) }
+        ensures same { is_carried entry.now self.old.next ≡ false →
+            self.new.life.core ≡ self.old.life.core }
         ensures next { self.new.next ≡ self.old.next }
         ensures settings { C.settings_of self.new.life.core ≡ C.settings_of self.old.life.core }
     {
@@ -174,11 +177,15 @@ impl<C: Begins> Replay<C> {
 
     /// Plays an entry that is a step: the next one, or one at the front of a file.
     fn play_step(&mut self, entry: &Entry<'_>) -> Result<(), Halt>
-        ensures as_recorded { (g : Given) (E : List LifeEntry) → C.stands_for self.old.life.core g E →
+        ensures as_recorded { (g : Given) (E : List LifeEntry) →
+            C.stands_for self.old.life.core g E →
             is_carried entry.now self.old.next ≡ false → OnOk result (Passes C.rules
-            (C.Settings.says (C.settings_of self.old.life.core)) g E (C.stands_for self.new.life.core g) entry.now.what) }
-        ensures next { is_carried entry.now self.old.next ≡ false → OnOk result (entry.now.step ≡ self.old.next) }
-        ensures after { is_carried entry.now self.old.next ≡ false → OnOk result (self.new.next ≡ behind self.old.next) }
+            (C.Settings.says (C.settings_of self.old.life.core)) g E
+            (C.stands_for self.new.life.core g) entry.now.what) }
+        ensures next { is_carried entry.now self.old.next ≡ false →
+            OnOk result (entry.now.step ≡ self.old.next) }
+        ensures after { is_carried entry.now self.old.next ≡ false →
+            OnOk result (self.new.next ≡ behind self.old.next) }
         ensures settings { C.settings_of self.new.life.core ≡ C.settings_of self.old.life.core }
     {
         if self.play_front(entry)? {

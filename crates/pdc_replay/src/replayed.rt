@@ -53,7 +53,8 @@ impl<C: Begins> Replayed<C> {
     /// Why it cannot be begun so.
     pub fn begin(alloc: Global, begun: &Begun<'_>, text: &str) -> Result<Replayed<C>, Unbegun>
         ensures stands { IfOk result (λ life. C.stands_for life.core
-            (C.begun_with (C.settings_of life.core) begun.entry.now.start begun.entry.now.floor begun.entry.now.counts begun.entry.now.now) []) }
+            (C.begun_with (C.settings_of life.core) begun.entry.now.start begun.entry.now.floor
+            begun.entry.now.counts begun.entry.now.now) []) }
     {
         let core = C::begin(alloc, begun, text)?;
         Ok(Replayed {
@@ -107,7 +108,8 @@ impl<C: Begins> Replayed<C> {
         recorded: Ticked,
     ) -> Result<(), Halt>
         ensures as_recorded { (g : Given) (E : List LifeEntry) → C.stands_for self.old.core g E →
-            OnOk result (PassesTick C.rules g E (C.stands_for self.new.core g) now counts.now recorded) }
+            OnOk result (PassesTick C.rules g E (C.stands_for self.new.core g) now counts.now
+            recorded) }
         ensures settings { C.settings_of self.new.core ≡ C.settings_of self.old.core }
     {
         if let Err(what) = tick(&mut self.core, now, counts, recorded) {
@@ -153,7 +155,8 @@ impl<C: Begins> Replayed<C> {
     /// No row is there to be popped.
     fn find_none(&mut self, step: u64) -> Result<(), Halt>
         ensures as_recorded { (g : Given) (E : List LifeEntry) → C.stands_for self.old.core g E →
-            OnOk result ((pop_answer E ≡ None) × C.stands_for self.new.core g (answered C.rules g E ToPop ∷ E)) }
+            OnOk result ((pop_answer E ≡ None)
+            × C.stands_for self.new.core g (answered C.rules g E ToPop ∷ E)) }
         ensures settings { C.settings_of self.new.core ≡ C.settings_of self.old.core }
     {
         match pop(&mut self.core, &mut self.row, None) {
@@ -193,7 +196,8 @@ impl<C: Begins> Replayed<C> {
     /// What differs at the step that is played, of which this is the number, or at the one before it where it is a layout.
     pub fn make(&mut self, step: u64, entry: &Entry<'_>) -> Result<(), Halt>
         ensures as_recorded { (g : Given) (E : List LifeEntry) → C.stands_for self.old.core g E →
-            OnOk result (Passes C.rules (C.Settings.says (C.settings_of self.old.core)) g E (C.stands_for self.new.core g) entry.now.what) }
+            OnOk result (Passes C.rules (C.Settings.says (C.settings_of self.old.core)) g E
+            (C.stands_for self.new.core g) entry.now.what) }
         ensures settings { C.settings_of self.new.core ≡ C.settings_of self.old.core }
     {
         match &entry.what {
@@ -249,7 +253,8 @@ impl<C: Begins> Replayed<C> {
     pub fn carry(&mut self, what: &What<'_>) -> Result<bool, AllocError>
         ensures as_recorded { (g : Given) (E : List LifeEntry) → C.stands_for self.old.core g E →
             IfOk result (λ is_as_it_was. is_as_it_was ≡ true →
-            Passes C.rules (C.Settings.says (C.settings_of self.old.core)) g E (C.stands_for self.new.core g) (carried_as what.now)) }
+            Passes C.rules (C.Settings.says (C.settings_of self.old.core)) g E
+            (C.stands_for self.new.core g) (carried_as what.now)) }
         ensures settings { C.settings_of self.new.core ≡ C.settings_of self.old.core }
     {
         match what {

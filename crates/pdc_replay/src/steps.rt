@@ -90,7 +90,8 @@ pub fn tick<C: Begins>(
     counts: &[u16; MAX_PMUS],
     recorded: Ticked,
 ) -> Result<(), Difference>
-    ensures as_recorded { IfOk result (λ _. (g : Given) (E : List Entry) → C.stands_for core.old g E →
+    ensures as_recorded { IfOk result (λ _. (g : Given) (E : List Entry) →
+        C.stands_for core.old g E →
         recorded ≡ ticked_of (changes E) (tick_answer g E now counts.now)) }
     ensures stands { (g : Given) (E : List Entry) → C.stands_for core.old g E →
         C.stands_for core.new g (answered C.rules g E (ToTick now counts.now) ∷ E) }
@@ -114,11 +115,13 @@ pub fn pop<C: Begins>(
     recorded: Option<u64>,
 ) -> Result<(), Difference>
     // It is the one of the instant that is recorded,
-    ensures as_recorded { (g : Given) (E : List Entry) → C.stands_for core.old g E → OnOk result (IsPop E recorded (row_view row.new)) }
+    ensures as_recorded { (g : Given) (E : List Entry) → C.stands_for core.old g E →
+        OnOk result (IsPop E recorded (row_view row.new)) }
     // which can be tagged.
     ensures tagged { (g : Given) (E : List Entry) → C.stands_for core.old g E →
         OnOk result (IfSome recorded (λ _. row.new.instant < SECONDS * g.output.rate)) }
-    ensures stands { (g : Given) (E : List Entry) → C.stands_for core.old g E → C.stands_for core.new g (answered C.rules g E ToPop ∷ E) }
+    ensures stands { (g : Given) (E : List Entry) → C.stands_for core.old g E →
+        C.stands_for core.new g (answered C.rules g E ToPop ∷ E) }
     ensures settings { C.settings_of core.new ≡ C.settings_of core.old }
 {
     let replayed = if core.pop_into(row) {
@@ -142,7 +145,8 @@ pub fn compare_frame(
     wire: &mut Vec<u8>,
 ) -> Result<(), Halt>
     // The one that is recorded is the one that is published.
-    ensures as_recorded { row.now.instant < SECONDS * output.now.rate → OnOk result (recorded.now ≡ wire_of output.now (row_view row.now)) }
+    ensures as_recorded { row.now.instant < SECONDS * output.now.rate →
+        OnOk result (recorded.now ≡ wire_of output.now (row_view row.now)) }
 {
     wire.clear();
     if row.instant < SECONDS * u64::from(output.rate) {
@@ -168,7 +172,8 @@ pub fn compare_popped<C: Begins>(
     recorded: Option<&[u8]>,
     wire: &mut Vec<u8>,
 ) -> Result<(), Halt>
-    ensures as_recorded { (g : Given) (E : List Entry) → C.stands_for core.now g E → row.now.instant < SECONDS * g.output.rate →
+    ensures as_recorded { (g : Given) (E : List Entry) → C.stands_for core.now g E →
+        row.now.instant < SECONDS * g.output.rate →
         OnOk result (IsFrameOf recorded.entry (wire_of g.output (row_view row.now))) }
 {
     match recorded {
@@ -183,7 +188,8 @@ pub fn compare_popped<C: Begins>(
 ///
 /// No memory was left.
 pub fn write_layout<C: Begins>(core: &C, soc: u32, wire: &mut Vec<u8>) -> Result<(), AllocError>
-    ensures layout { (g : Given) (E : List Entry) → C.stands_for core.now g E → OnOk result (wire.new.items ≡ layout_wire g E soc) }
+    ensures layout { (g : Given) (E : List Entry) → C.stands_for core.now g E →
+        OnOk result (wire.new.items ≡ layout_wire g E soc) }
 {
     wire.clear();
     core.layout_frame(soc, wire)

@@ -34,7 +34,11 @@ impl Model for Cell {
     } };
 
     ghost invariant = { λ cell. record {
-      present : cell.has_data ≡ is_present (record { shape = cell.shape; words = take (word_count_of cell.shape) cell.words });
+      present : cell.has_data ≡ is_present (record {
+        shape = cell.shape;
+        words = take
+            (word_count_of cell.shape) cell.words;
+      });
       counted : cell.count ≡ word_count_of cell.shape;
     } };
 }

@@ -4,7 +4,8 @@ ghost use Rattle.std.specs.Int.{w16, cast_unsigned};
 ghost use Rattle.pdc_row.specs.pdc_frame.Frame.{IsFrame};
 ghost use Rattle.pdc_row.specs.pdc_frame.declared.limits.TheConstants.{OVERHEAD};
 ghost use Rattle.pdc_row.specs.pdc_cfg.Section.{fields_of_view, fields_of_section};
-ghost use Rattle.pdc_row.specs.Layout.{IsLayout, layout_fields_of, layout_payload_of, layout_wire_of};
+ghost use Rattle.pdc_row.specs.Layout.{IsLayout, layout_fields_of, layout_payload_of};
+ghost use Rattle.pdc_row.specs.Layout.{layout_wire_of};
 
 use crate::limits::MAX_PMUS;
 use crate::output::Output;
@@ -31,7 +32,8 @@ fn config_of<'a>(output: &Output, own: &'a Section, sections: &'a [SectionView])
     requires { length sections.now ≤ MAX_PMUS }
     ensures flags { result.flags ≡ 0 }
     ensures time_base { result.time_base ≡ output.now.time_base }
-    ensures sections { map fields_of_view result.sections.items ≡ fields_of_section own.now ∷ map fields_of_view sections.now }
+    ensures sections { map fields_of_view result.sections.items ≡ fields_of_section own.now ∷
+        map fields_of_view sections.now }
     ensures rate { cast_unsigned w16 result.rate ≡ output.now.rate }
 {
     let mut all = ArrayVec::new();
@@ -63,18 +65,30 @@ pub fn append_layout<B: Buffer>(
 ) -> Result<(), AllocError>
     requires { length sections.now ≤ MAX_PMUS }
     // What is appended is the frame,
-    ensures ok { OnOk result (B.content out.new ≡ B.content out.old ++ layout_wire_of output.now start change (map fields_of_view sections.now) soc) }
+    ensures ok { OnOk result (B.content out.new ≡ B.content out.old ++
+        layout_wire_of output.now start change (map fields_of_view sections.now) soc) }
     // which is read back with these fields.
-    ensures frame { IsFrame (layout_wire_of output.now start change (map fields_of_view sections.now) soc) (layout_fields_of output.now start change (map fields_of_view sections.now) soc) }
+    ensures frame { IsFrame (layout_wire_of output.now start change
+        (map fields_of_view sections.now) soc) (layout_fields_of output.now start change
+        (map fields_of_view sections.now) soc) }
     // Its payload is a configuration: the own section, and then these.
-    ensures config { OnOk result (IsLayout output.now start change (map fields_of_view sections.now) (layout_payload_of output.now start change (map fields_of_view sections.now))) }
+    ensures config { OnOk result (IsLayout output.now start change
+        (map fields_of_view sections.now) (layout_payload_of output.now start change
+        (map fields_of_view sections.now))) }
     // It fails only where there was no room, and then nothing is appended.
-    ensures err { OnErr result ((B.content out.new ≡ B.content out.old) × (B.capacity out.new ≡ B.capacity out.old)) }
-    ensures room { length (B.content out.old) + length (layout_wire_of output.now start change (map fields_of_view sections.now) soc) ≤ B.capacity out.old → IsOk result }
+    ensures err { OnErr result ((B.content out.new ≡ B.content out.old)
+        × (B.capacity out.new ≡ B.capacity out.old)) }
+    ensures room { length (B.content out.old) +
+        length (layout_wire_of output.now start change (map fields_of_view sections.now) soc) ≤
+        B.capacity out.old → IsOk result }
     // A request for the whole frame was refused.
-    ensures refused { OnErr result (B.refused out.new (length (layout_payload_of output.now start change (map fields_of_view sections.now)) + OVERHEAD)) }
+    ensures refused { OnErr result (B.refused out.new
+        (length (layout_payload_of output.now start change (map fields_of_view sections.now)) +
+        OVERHEAD)) }
     // Where there was room, it takes no memory.
-    ensures in_place { length (B.content out.old) + length (layout_wire_of output.now start change (map fields_of_view sections.now) soc) ≤ B.capacity out.old
+    ensures in_place { length (B.content out.old) +
+        length (layout_wire_of output.now start change (map fields_of_view sections.now) soc) ≤
+        B.capacity out.old
         → B.capacity out.new ≡ B.capacity out.old }
     ensures capacity { B.capacity out.old ≤ B.capacity out.new }
 {

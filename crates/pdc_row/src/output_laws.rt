@@ -1,5 +1,6 @@
 //! Laws of the frames that go out: each is the contract of a function that does nothing but call the laws that it stands on.
-ghost use Rattle.pdc_row.specs.Laws.{LayoutsAreFrames, OwnSectionsTellStamps, RowsAreCut, RowsAreFrames};
+ghost use Rattle.pdc_row.specs.Laws.{LayoutsAreFrames, OwnSectionsTellStamps, RowsAreCut};
+ghost use Rattle.pdc_row.specs.Laws.{RowsAreFrames};
 
 use pdc_block::tag_is_nearest;
 

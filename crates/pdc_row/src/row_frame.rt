@@ -1,5 +1,6 @@
 //! The data frame of a closed row (C37.118.2-2011, 6.3).
-ghost use Rattle.std.specs.Prelude.{◌≡◌, ◌+◌, ◌*◌, ◌<◌, ◌≤◌, ◌++◌, [], length, sum_by, IsOk, OnOk, OnErr};
+ghost use Rattle.std.specs.Prelude.{◌≡◌, ◌+◌, ◌*◌, ◌<◌, ◌≤◌, ◌++◌, [], length, sum_by, IsOk};
+ghost use Rattle.std.specs.Prelude.{OnOk, OnErr};
 ghost use Rattle.pdc_row.specs.pdc_frame.Frame.{IsFrame, fields_of};
 ghost use Rattle.pdc_row.specs.pdc_frame.declared.frame.Kind.TheVariants.{DataFrame};
 ghost use Rattle.pdc_row.specs.pdc_block.Block.{bytes_of_words, body_len_of, shape_of};
@@ -30,7 +31,8 @@ pub const MAX_ROW_LEN: usize = LONGEST_PAYLOAD + OVERHEAD;
 /// The bytes of the frame's payload.
 fn payload_len(row: &DueRow) -> usize
     ensures value { result ≡ length (row_payload (row_view row.now)) }
-    ensures blocks { result ≡ OWN_BLOCK_LEN + sum_by (λ block. body_len_of (shape_of block)) row.now.blocks.items }
+    ensures blocks { result ≡ OWN_BLOCK_LEN +
+        sum_by (λ block. body_len_of (shape_of block)) row.now.blocks.items }
     ensures most { result ≤ LONGEST_PAYLOAD }
 {
     OWN_BLOCK_LEN + joined_len(row.blocks.as_slice())
@@ -39,7 +41,8 @@ fn payload_len(row: &DueRow) -> usize
 /// Appends the own block. It takes no memory.
 fn append_own_block<B: Buffer>(start: u32, change: u32, out: &mut B)
     requires { length (B.content out.old) + OWN_BLOCK_LEN ≤ B.capacity out.old }
-    ensures content { B.content out.new ≡ B.content out.old ++ bytes_of_words (own_block start change) }
+    ensures content { B.content out.new ≡ B.content out.old ++
+        bytes_of_words (own_block start change) }
     ensures len { length (B.content out.new) ≡ length (B.content out.old) + OWN_BLOCK_LEN }
     ensures in_place { B.capacity out.new ≡ B.capacity out.old }
 {
@@ -49,7 +52,8 @@ fn append_own_block<B: Buffer>(start: u32, change: u32, out: &mut B)
 
 /// Appends the payload: the own block and the blocks of the row. It takes no memory.
 fn append_payload<B: Buffer>(row: &DueRow, out: &mut B)
-    requires { length (B.content out.old) + OWN_BLOCK_LEN + sum_by (λ block. body_len_of (shape_of block)) row.now.blocks.items ≤ B.capacity out.old }
+    requires { length (B.content out.old) + OWN_BLOCK_LEN +
+        sum_by (λ block. body_len_of (shape_of block)) row.now.blocks.items ≤ B.capacity out.old }
     ensures content { B.content out.new ≡ B.content out.old ++ row_payload (row_view row.now) }
     ensures in_place { B.capacity out.new ≡ B.capacity out.old }
 {
@@ -69,7 +73,8 @@ fn head_of<'a>(output: &'a Output, row: &DueRow) -> Frame<'a>
       frac = result.frac;
       payload = [];
     } }
-    ensures tag { (result.soc, result.frac) ≡ tag_of row.now.instant output.now.time_base output.now.rate }
+    ensures tag { (result.soc, result.frac) ≡
+        tag_of row.now.instant output.now.time_base output.now.rate }
     ensures count { result.frac < output.now.time_base }
 {
     let (soc, frac) = tag_of(row.instant, output.time_base, u32::from(output.rate));
@@ -93,14 +98,19 @@ fn head_of<'a>(output: &'a Output, row: &DueRow) -> Frame<'a>
 pub fn append_row<B: Buffer>(output: &Output, row: &DueRow, out: &mut B) -> Result<(), AllocError>
     requires instant { row.now.instant < SECONDS * output.now.rate }
     // What is appended is the frame,
-    ensures ok { OnOk result (B.content out.new ≡ B.content out.old ++ wire_of output.now (row_view row.now)) }
+    ensures ok { OnOk result (B.content out.new ≡ B.content out.old ++
+        wire_of output.now (row_view row.now)) }
     // which is read back with these fields.
-    ensures frame { IsFrame (wire_of output.now (row_view row.now)) (row_fields output.now (row_view row.now)) }
+    ensures frame { IsFrame (wire_of output.now (row_view row.now))
+        (row_fields output.now (row_view row.now)) }
     // It fails only where there was no room, and then nothing is appended.
-    ensures err { OnErr result ((B.content out.new ≡ B.content out.old) × (B.capacity out.new ≡ B.capacity out.old)) }
-    ensures room { length (B.content out.old) + length (wire_of output.now (row_view row.now)) ≤ B.capacity out.old → IsOk result }
+    ensures err { OnErr result ((B.content out.new ≡ B.content out.old)
+        × (B.capacity out.new ≡ B.capacity out.old)) }
+    ensures room { length (B.content out.old) +
+        length (wire_of output.now (row_view row.now)) ≤ B.capacity out.old → IsOk result }
     // Where there was room, it takes no memory.
-    ensures in_place { length (B.content out.old) + length (wire_of output.now (row_view row.now)) ≤ B.capacity out.old
+    ensures in_place { length (B.content out.old) +
+        length (wire_of output.now (row_view row.now)) ≤ B.capacity out.old
         → B.capacity out.new ≡ B.capacity out.old }
     ensures capacity { B.capacity out.old ≤ B.capacity out.new }
     // The frame has 3454 bytes at most.
@@ -127,7 +137,8 @@ fn write_own_block(start: u32, change: u32, bytes: &mut [u8])
 
 /// Writes the payload over these bytes: the own block and the blocks of the row.
 fn write_payload(row: &DueRow, bytes: &mut [u8])
-    requires { length bytes.old ≡ OWN_BLOCK_LEN + sum_by (λ block. body_len_of (shape_of block)) row.now.blocks.items }
+    requires { length bytes.old ≡ OWN_BLOCK_LEN +
+        sum_by (λ block. body_len_of (shape_of block)) row.now.blocks.items }
     ensures { bytes.new ≡ row_payload (row_view row.now) }
 {
     let (own, blocks) = bytes.split_at_mut(OWN_BLOCK_LEN);
@@ -138,7 +149,8 @@ fn write_payload(row: &DueRow, bytes: &mut [u8])
 /// Writes the data frame of the row over these bytes.
 fn write_over(output: &Output, row: &DueRow, bytes: &mut [u8])
     requires instant { row.now.instant < SECONDS * output.now.rate }
-    requires size { length bytes.old ≡ OWN_BLOCK_LEN + sum_by (λ block. body_len_of (shape_of block)) row.now.blocks.items + OVERHEAD }
+    requires size { length bytes.old ≡ OWN_BLOCK_LEN +
+        sum_by (λ block. body_len_of (shape_of block)) row.now.blocks.items + OVERHEAD }
     requires most { length bytes.old ≤ MAX_ROW_LEN }
     ensures { bytes.new ≡ wire_of output.now (row_view row.now) }
 {

@@ -1,10 +1,12 @@
 //! What a concentrator says of itself in its layout (C37.118.2-2011, table 9).
-ghost use Rattle.std.specs.Prelude.{◌≡◌, ◌+◌, ◌*◌, ◌/◌, ◌%◌, ◌^◌, ◌<◌, ◌≤◌, ◌++◌, [], ◌∷◌, length, replicate, false};
+ghost use Rattle.std.specs.Prelude.{◌≡◌, ◌+◌, ◌*◌, ◌/◌, ◌%◌, ◌^◌, ◌<◌, ◌≤◌, ◌++◌, [], ◌∷◌};
+ghost use Rattle.std.specs.Prelude.{length, replicate, false};
 ghost use Rattle.std.specs.Int.{w16, to_be_bytes};
 ghost use Rattle.std.specs.List.{flat_map};
 ghost use Rattle.arrayvec.specs.ArrayVec.{array_vec_len};
 ghost use Rattle.pdc_row.specs.pdc_cfg.Section.{IsSection, fields_of_section};
-ghost use Rattle.pdc_row.specs.Layout.{digit, own_name, nominal_word, masks_of, stamp_words, own_bytes};
+ghost use Rattle.pdc_row.specs.Layout.{digit, own_name, nominal_word, masks_of, stamp_words};
+ghost use Rattle.pdc_row.specs.Layout.{own_bytes};
 
 use crate::output::{Nominal, Output};
 use crate::stamp::{low_word, stamp_words};
@@ -66,7 +68,8 @@ fn append_name(id: u16, bytes: &mut ArrayVec<u8, MAX_SECTION_LEN>)
 /// Appends IDCODE, FORMAT, PHNMR, ANNMR and DGNMR: 16-bit integers, and no values but the digital words.
 fn append_numbers(id: u16, bytes: &mut ArrayVec<u8, MAX_SECTION_LEN>)
     requires { array_vec_len bytes.old + 10 ≤ MAX_SECTION_LEN }
-    ensures items { bytes.new.items ≡ bytes.old.items ++ to_be_bytes w16 id ++ to_be_bytes w16 0 ++ to_be_bytes w16 0
+    ensures items { bytes.new.items ≡ bytes.old.items ++ to_be_bytes w16 id ++ to_be_bytes w16 0 ++
+        to_be_bytes w16 0
         ++ to_be_bytes w16 0 ++ to_be_bytes w16 4 }
     ensures len { array_vec_len bytes.new ≡ array_vec_len bytes.old + 10 }
 {
@@ -126,7 +129,8 @@ fn section_bytes(output: &Output, start: u32, change: u32) -> ArrayVec<u8, MAX_S
 /// words. CFGCNT is the low half of the change number. It takes no memory.
 pub fn own_section(output: &Output, start: u32, change: u32) -> Section
     ensures section { IsSection (fields_of_section result) }
-    ensures bytes { result.bytes.items ≡ own_bytes output.now.id.value output.now.nominal start change }
+    ensures bytes { result.bytes.items ≡
+        own_bytes output.now.id.value output.now.nominal start change }
     ensures phasors { result.shape.phasors ≡ 0 }
     ensures analogs { result.shape.analogs ≡ 0 }
     ensures digitals { result.shape.digitals ≡ 4 }

@@ -2,7 +2,7 @@
 use Rattle.std.proofs.Common.{◌≡◌, ◌≤◌, ℕ, List, [], ◌∷◌, Option, length, take, refl, sym, subst, inl, inr, arith, length-take}
 use Rattle.pdc_frame.specs.Stream.{Held}
 use Rattle.pdc_session.specs.Session.{AreFew, HasAnswered}
-use Rattle.pdc_session.specs.declared.told.Told.{Told}
+use Rattle.pdc_session.specs.declared.subscription.Subscription.{Subscription}
 use Rattle.pdc_session.specs.declared.serving.Serving.{Serving}
 use Rattle.pdc_server.specs.declared.limits.TheConstants.{MOST_HEARD, PIECE_LEN}
 use Rattle.std.specs.Prelude.{Result, Ok, Err, IfErr, IsErrAnd, OnErr, OnOk, Some, None, true}
@@ -17,7 +17,7 @@ few_frames [] bytes pending few le = omega arith
 few_frames (f ∷ fs) bytes pending few le = omega (arith, few)
 
 -- what ends in a piece of a turn are few frames
-pub few_heard : {id : ℕ} {serving : Serving} {piece : List ℕ} {held : Held} {told : Told} {out : List ℕ} {later : Held} {after : Told} {grown : List ℕ} (h : HasAnswered id serving piece held told out later after grown)
+pub few_heard : {id : ℕ} {serving : Serving} {piece : List ℕ} {held : Held} {told : Subscription} {out : List ℕ} {later : Held} {after : Subscription} {grown : List ℕ} (h : HasAnswered id serving piece held told out later after grown)
     → length piece ≤ PIECE_LEN → length h.frames ≤ MOST_HEARD
 few_heard {piece = piece} h le = few_frames h.frames (length piece) _ h.hears.few le
 

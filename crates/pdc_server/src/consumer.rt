@@ -1,8 +1,10 @@
 //! One session, turn by turn.
-ghost use Rattle.std.specs.Prelude.{◌≡◌, ◌⊎◌, ◌≤◌, ◌<◌, OnErr, IsErrOf, take, Some, None, false, OnOk, IfOk, IfErr, vec_len};
+ghost use Rattle.std.specs.Prelude.{◌≡◌, ◌⊎◌, ◌≤◌, ◌<◌, OnErr, IsErrOf, take, Some, None, false};
+ghost use Rattle.std.specs.Prelude.{OnOk, IfOk, IfErr, vec_len};
 ghost use Rattle.pdc_server.specs.declared.limits.TheConstants.{PIECE_LEN};
 ghost use Rattle.pdc_server.specs.Places.{first_place, replied, seen_after};
-ghost use Rattle.pdc_server.specs.Turn.{HasEnded, HasTurned, IsMade, dated_at, has_bytes, place_after};
+ghost use Rattle.pdc_server.specs.Turn.{HasEnded, HasTurned, IsMade, dated_at, has_bytes};
+ghost use Rattle.pdc_server.specs.Turn.{place_after};
 ghost use Rattle.pdc_session.specs.Served.{IsNew};
 ghost use Rattle.pdc_session.specs.pdc_memory.Asking.{SomeWasRefused, WasRefused};
 ghost use Rattle.pdc_frame.specs.declared.limits.TheConstants.{MAX_SIZE};
@@ -58,7 +60,8 @@ fn place_after(place: Place, stamp: Option<Stamp>, replies: &[u8]) -> Place
 }
 
 impl<N: Naming> Consumer<N> {
-    ghost use Rattle.pdc_server.specs.Consumer.{got_in, heard_in, id_in, is_silent_in, place_in, session_in, standing_in};
+    ghost use Rattle.pdc_server.specs.Consumer.{got_in, heard_in, id_in, is_silent_in, place_in};
+    ghost use Rattle.pdc_server.specs.Consumer.{session_in, standing_in};
 
     /// A consumer of the stream whose frames are kept there, that sent nothing yet.
     ///
@@ -142,7 +145,8 @@ impl<N: Naming> Consumer<N> {
             (id_in self.old) (take count self.old.piece.items) (standing_in self.old)
             (standing_in self.new) self.new.out.items) }
         ensures refused { IsErrOf result Ended.NoMemory → SomeWasRefused }
-        ensures denied { (session_in self.old).ended ≡ None → IsErrOf result (Ended.Session SessionFault.NoMemory) → SomeWasRefused }
+        ensures denied { (session_in self.old).ended ≡ None →
+            IsErrOf result (Ended.Session SessionFault.NoMemory) → SomeWasRefused }
     {
         self.heard = count > 0;
         self.out.clear();
@@ -186,7 +190,8 @@ impl<N: Naming> Consumer<N> {
         ensures ended { IfErr result (HasEnded S.remaining S.contents (dated_at N.stream soc)
             (id_in self.old) (standing_in self.old) (standing_in self.new) stream.old stream.new) }
         ensures refused { IsErrOf result Ended.NoMemory → SomeWasRefused }
-        ensures denied { (session_in self.old).ended ≡ None → IsErrOf result (Ended.Session SessionFault.NoMemory) → SomeWasRefused }
+        ensures denied { (session_in self.old).ended ≡ None →
+            IsErrOf result (Ended.Session SessionFault.NoMemory) → SomeWasRefused }
     {
         let count = read_once(stream, &mut self.piece)?;
         let made = self.make(rt, recent, soc, count);

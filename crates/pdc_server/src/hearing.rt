@@ -1,5 +1,6 @@
 //! What a piece of the consumer's stream is answered.
-ghost use Rattle.std.specs.Prelude.{◌≡◌, ◌≤◌, length, true, false, Some, None, IfOk, IfErr, IsErrOf, OnErr, OnOk};
+ghost use Rattle.std.specs.Prelude.{◌≡◌, ◌≤◌, length, true, false, Some, None, IfOk, IfErr};
+ghost use Rattle.std.specs.Prelude.{IsErrOf, OnErr, OnOk};
 ghost use Rattle.pdc_cfg.specs.Config.{config_fields_of};
 ghost use Rattle.pdc_frame.specs.declared.header.TheConstants.{MAX_TEXT};
 ghost use Rattle.pdc_session.specs.pdc_memory.Asking.{SomeWasRefused};
@@ -66,7 +67,8 @@ fn hear<N: Naming>(
     ensures failed { IfErr result (λ fault. HasFailed (dated_at N.stream source.now.soc)
         source.now.stamp source.now.header.now piece.now session.old session.new out.old.items
         out.new.items fault) }
-    ensures refused { session.old.ended ≡ None → IsErrOf result SessionFault.NoMemory → SomeWasRefused }
+    ensures refused { session.old.ended ≡ None → IsErrOf result SessionFault.NoMemory →
+        SomeWasRefused }
 {
     let serving = Serving {
         soc: source.soc,
@@ -99,7 +101,8 @@ pub fn answer<N: Naming, R: Wait>(
         (λ ended. IsUnheard ended (dated_at N.stream question.now.soc) question.now.id.value
         question.now.piece.now session.old session.new out.old.items out.new.items) }
     ensures refused { IsErrOf result Ended.NoMemory → SomeWasRefused }
-    ensures denied { session.old.ended ≡ None → IsErrOf result (Ended.Session SessionFault.NoMemory) → SomeWasRefused }
+    ensures denied { session.old.ended ≡ None →
+        IsErrOf result (Ended.Session SessionFault.NoMemory) → SomeWasRefused }
 {
     if question.piece.is_empty() {
         return Ok(None);
@@ -136,13 +139,16 @@ pub fn append_data<N: Naming, R: Wait>(
     is_fresh: bool,
     out: &mut Vec<u8>,
 ) -> Result<Place, Ended>
-    ensures off { session.now.told.on ≡ false → IfOk result (λ reached. (reached ≡ place) × (out.new.items ≡ out.old.items)) }
-    ensures on { session.now.told.on ≡ true → IfOk result (λ reached. IsGiven N.stream place out.old.items reached out.new.items) }
+    ensures off { session.now.told.on ≡ false →
+        IfOk result (λ reached. (reached ≡ place) × (out.new.items ≡ out.old.items)) }
+    ensures on { session.now.told.on ≡ true →
+        IfOk result (λ reached. IsGiven N.stream place out.old.items reached out.new.items) }
     ensures given { session.now.told.on ≡ true
         → IfOk result (λ reached. OfFound
         (λ memory. IsGivenOf memory place is_fresh out.old.items reached out.new.items)) }
     ensures err { OnErr result (out.new.items ≡ out.old.items) }
-    ensures wanted { IfErr result (λ ended. (ended ≡ Ended.NoMemory) × (session.now.told.on ≡ true)) }
+    ensures wanted { IfErr result (λ ended. (ended ≡ Ended.NoMemory)
+        × (session.now.told.on ≡ true)) }
     ensures refused { OnErr result SomeWasRefused }
 {
     if !session.on() {

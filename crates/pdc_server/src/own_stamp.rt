@@ -21,7 +21,8 @@ fn number_at(bytes: &[u8], place: usize) -> u32
 
 /// Whether the bytes are the own section of a concentrator with this stamp.
 fn is_own(output: &Output, stamp: Stamp, bytes: &[u8]) -> bool
-    ensures { result ≡ true → bytes.now ≡ own_bytes output.now.id.value output.now.nominal stamp.start stamp.change }
+    ensures { result ≡ true → bytes.now ≡ own_bytes output.now.id.value output.now.nominal
+        stamp.start stamp.change }
 {
     let own = own_section(output, stamp.start, stamp.change);
     bytes == own.bytes.as_slice()
@@ -29,7 +30,8 @@ fn is_own(output: &Output, stamp: Stamp, bytes: &[u8]) -> bool
 
 /// The stamp of a layout of this concentrator, where these bytes are its own section.
 pub fn own_stamp(output: &Output, bytes: &[u8]) -> Option<Stamp>
-    ensures { IfSome result (λ stamp. bytes.now ≡ own_bytes output.now.id.value output.now.nominal stamp.start stamp.change) }
+    ensures { IfSome result (λ stamp. bytes.now ≡
+        own_bytes output.now.id.value output.now.nominal stamp.start stamp.change) }
 {
     if bytes.len() != OWN_SECTION_LEN {
         return None;

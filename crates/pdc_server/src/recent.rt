@@ -31,7 +31,8 @@ pub struct Recent<N: Naming> {
 
 /// The layout frame before the first adoption of a life with this start: the own section alone.
 fn first_layout(alloc: Global, output: &Output, start: u32) -> Result<Vec<u8>, AllocError>
-    ensures layout { IfOk result (λ layout. IsLayout (stream_of output.now) (first_stamp start) layout.items) }
+    ensures layout { IfOk result (λ layout. IsLayout (stream_of output.now) (first_stamp start)
+        layout.items) }
     ensures refused { OnErr result SomeWasRefused }
 {
     let mut layout = Vec::new(alloc);
@@ -80,7 +81,8 @@ impl<N: Naming> Recent<N> {
         bytes: &[u8],
     ) -> Result<bool, AllocError>
         requires { ∥ IsData N.stream stamp instant bytes.now ∥₁ }
-        ensures kept { IfOk result (λ is_kept. OfLeft (λ memory later. IsPushed is_kept memory stamp instant bytes.now later)) }
+        ensures kept { IfOk result (λ is_kept. OfLeft
+            (λ memory later. IsPushed is_kept memory stamp instant bytes.now later)) }
         ensures refused { OnErr result (WasRefused (length bytes.now)) }
     {
         let mut held = self.remembered.lock(rt);
@@ -116,9 +118,11 @@ impl<N: Naming> Recent<N> {
         is_fresh: bool,
         out: &mut B,
     ) -> Result<Place, AllocError>
-        ensures ok { IfOk result (λ now. IsGiven N.stream place (B.content out.old) now (B.content out.new)) }
+        ensures ok { IfOk result (λ now. IsGiven N.stream place (B.content out.old) now
+            (B.content out.new)) }
         ensures given { IfOk result (λ now. OfFound
-            (λ memory. IsGivenOf memory place is_fresh (B.content out.old) now (B.content out.new))) }
+            (λ memory. IsGivenOf memory place is_fresh (B.content out.old) now
+            (B.content out.new))) }
         ensures err { OnErr result (B.content out.new ≡ B.content out.old) }
         ensures refused { OnErr result (ForSome (B.refused out.new)) }
     {
@@ -139,7 +143,8 @@ impl<N: Naming> Recent<N> {
         layout: Vec<u8>,
     ) -> Result<(), AllocError>
         requires { IsLayout N.stream stamp layout.items }
-        ensures kept { OnOk result (OfLeft (λ memory later. later ≡ laid_out memory stamp layout.items)) }
+        ensures kept { OnOk result (OfLeft (λ memory later. later ≡
+            laid_out memory stamp layout.items)) }
         ensures refused { OnErr result (WasRefused KEPT_FRAMES) }
     {
         self.remembered.lock(rt).keep_layout(alloc, stamp, layout)

@@ -39,7 +39,8 @@ pub struct Remembered<N: Naming> {
 }
 
 impl<N: Naming> Remembered<N> {
-    ghost use Rattle.pdc_server.specs.Remembering.{IsGivenOf, kept_with, laid_out, memory_of, no_frames};
+    ghost use Rattle.pdc_server.specs.Remembering.{IsGivenOf, kept_with, laid_out, memory_of};
+    ghost use Rattle.pdc_server.specs.Remembering.{no_frames};
     ghost use Rattle.pdc_server.specs.Stamps.{is_stamp};
 
     /// No data frame yet, and this layout frame.
@@ -47,7 +48,8 @@ impl<N: Naming> Remembered<N> {
         requires { ∥ IsLayout N.stream stamp layout.items ∥₁ }
         ensures refused { OnErr result (WasRefused KEPT_FRAMES) }
         ensures kept { IfOk result (λ remembered. (remembered.frames.frames ≡ [])
-            × (remembered.stamp ≡ stamp) × (remembered.layout ≡ layout) × (remembered.closed ≡ false)) }
+            × (remembered.stamp ≡ stamp) × (remembered.layout ≡ layout)
+            × (remembered.closed ≡ false)) }
     {
         Ok(Remembered {
             frames: Frames::new(alloc)?,
@@ -77,7 +79,8 @@ impl<N: Naming> Remembered<N> {
             ≡ record (memory_of self.old) { frames = kept_with self.old.frames instant bytes.now }) }
         ensures later { is_old self.old.frames.greatest instant ≡ false
             → OnOk result (self.new.frames ≡ pushed self.old.frames instant bytes.now) }
-        ensures old { is_old self.old.frames.greatest instant ≡ true → OnOk result (self.new.frames ≡ self.old.frames) }
+        ensures old { is_old self.old.frames.greatest instant ≡ true →
+            OnOk result (self.new.frames ≡ self.old.frames) }
         ensures err { OnErr result (self.new ≡ self.old) }
         ensures refused { OnErr result (WasRefused (length bytes.now)) }
     {
@@ -123,9 +126,12 @@ impl<N: Naming> Remembered<N> {
     /// Appends the frames above what one at this place got, and answers where he stands then.
     fn give<B: Buffer>(&self, place: Place, out: &mut B) -> Result<Place, AllocError>
         requires { Takes place.seen self.now.stamp }
-        ensures ok { IfOk result (λ now. IsGiven N.stream place (B.content out.old) now (B.content out.new)) }
-        ensures bytes { OnOk result (B.content out.new ≡ B.content out.old ++ bytes_of (above place.got self.now.frames.frames)) }
-        ensures greatest { IfOk result (λ now. now.got ≡ greatest_of place.got (above place.got self.now.frames.frames)) }
+        ensures ok { IfOk result (λ now. IsGiven N.stream place (B.content out.old) now
+            (B.content out.new)) }
+        ensures bytes { OnOk result (B.content out.new ≡ B.content out.old ++
+            bytes_of (above place.got self.now.frames.frames)) }
+        ensures greatest { IfOk result (λ now. now.got ≡
+            greatest_of place.got (above place.got self.now.frames.frames)) }
         ensures seen { IfOk result (λ now. now.seen ≡ Layout self.now.stamp) }
         ensures err { OnErr result (B.content out.new ≡ B.content out.old) }
         ensures refused { OnErr result (ForSome (B.refused out.new)) }
@@ -140,10 +146,13 @@ impl<N: Naming> Remembered<N> {
     /// The same of the frames of the layout before.
     fn give_older<B: Buffer>(&self, place: Place, out: &mut B) -> Result<Place, AllocError>
         requires { Takes place.seen self.now.older_stamp }
-        ensures bytes { OnOk result (B.content out.new ≡ B.content out.old ++ bytes_of (above place.got self.now.older.frames)) }
-        ensures greatest { IfOk result (λ now. now.got ≡ greatest_of place.got (above place.got self.now.older.frames)) }
+        ensures bytes { OnOk result (B.content out.new ≡ B.content out.old ++
+            bytes_of (above place.got self.now.older.frames)) }
+        ensures greatest { IfOk result (λ now. now.got ≡
+            greatest_of place.got (above place.got self.now.older.frames)) }
         ensures seen { IfOk result (λ now. now.seen ≡ Layout self.now.older_stamp) }
-        ensures ok { IfOk result (λ now. IsGiven N.stream place (B.content out.old) now (B.content out.new)) }
+        ensures ok { IfOk result (λ now. IsGiven N.stream place (B.content out.old) now
+            (B.content out.new)) }
         ensures err { OnErr result (B.content out.new ≡ B.content out.old) }
         ensures refused { OnErr result (ForSome (B.refused out.new)) }
     {
@@ -156,8 +165,10 @@ impl<N: Naming> Remembered<N> {
 
     /// Appends the layout frame, and answers where one stands then who stood here.
     fn tell_layout<B: Buffer>(&self, place: Place, out: &mut B) -> Result<Place, AllocError>
-        ensures ok { IfOk result (λ now. IsGiven N.stream place (B.content out.old) now (B.content out.new)) }
-        ensures bytes { OnOk result (B.content out.new ≡ B.content out.old ++ self.now.layout.items) }
+        ensures ok { IfOk result (λ now. IsGiven N.stream place (B.content out.old) now
+            (B.content out.new)) }
+        ensures bytes { OnOk result (B.content out.new ≡ B.content out.old ++
+            self.now.layout.items) }
         ensures got { IfOk result (λ now. now.got ≡ place.got) }
         ensures seen { IfOk result (λ now. now.seen ≡ Layout self.now.stamp) }
         ensures err { OnErr result (B.content out.new ≡ B.content out.old) }
@@ -179,8 +190,10 @@ impl<N: Naming> Remembered<N> {
         is_fresh: bool,
         out: &mut B,
     ) -> Result<Place, AllocError>
-        ensures ok { IfOk result (λ now. IsGiven N.stream place (B.content out.old) now (B.content out.new)) }
-        ensures given { IfOk result (λ now. IsGivenOf (memory_of self.now) place is_fresh (B.content out.old) now (B.content out.new)) }
+        ensures ok { IfOk result (λ now. IsGiven N.stream place (B.content out.old) now
+            (B.content out.new)) }
+        ensures given { IfOk result (λ now. IsGivenOf (memory_of self.now) place is_fresh
+            (B.content out.old) now (B.content out.new)) }
         ensures all { takes place.seen self.now.stamp ≡ true
             → OnOk result (B.content out.new ≡ B.content out.old
             ++ bytes_of (above place.got self.now.frames.frames)) }
@@ -237,7 +250,8 @@ impl<N: Naming> Remembered<N> {
     ) -> Result<(), AllocError>
         requires { ∥ IsLayout N.stream stamp layout.items ∥₁ }
         ensures ok { OnOk result ((self.new.stamp ≡ stamp) × (self.new.layout ≡ layout)) }
-        ensures laid { OnOk result (memory_of self.new ≡ laid_out (memory_of self.old) stamp layout.items) }
+        ensures laid { OnOk result (memory_of self.new ≡
+            laid_out (memory_of self.old) stamp layout.items) }
         ensures err { OnErr result (self.new ≡ self.old) }
         ensures refused { OnErr result (WasRefused KEPT_FRAMES) }
     {

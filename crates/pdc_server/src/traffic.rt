@@ -29,8 +29,10 @@ pub fn read_once<S: Read>(stream: &mut S, piece: &mut Vec<u8>) -> Result<usize, 
     requires room { 0 < vec_len piece.old }
     ensures room { vec_len piece.new ≡ vec_len piece.old }
     ensures count { IfOk result (λ count. count ≤ vec_len piece.new) }
-    ensures bytes { IfOk result (λ count. Consumes (S.remaining stream.old) (S.remaining stream.new) (take count piece.new.items)) }
-    ensures unread { IfErr result (λ ended. IsUnread ended (S.remaining stream.old) (S.remaining stream.new)) }
+    ensures bytes { IfOk result (λ count. Consumes (S.remaining stream.old)
+        (S.remaining stream.new) (take count piece.new.items)) }
+    ensures unread { IfErr result (λ ended. IsUnread ended (S.remaining stream.old)
+        (S.remaining stream.new)) }
 {
     match stream.read(piece.as_mut_slice()) {
         Ok(0) => Err(Ended::EndOfStream),
@@ -63,7 +65,8 @@ pub fn write_out<N: Naming, S: Write, R: Wait>(
     bytes: &[u8],
 ) -> Result<(), Ended>
     ensures ok { OnOk result (Appends (S.contents stream.old) (S.contents stream.new) bytes.now) }
-    ensures unwritten { IfErr result (λ ended. IsUnwritten ended (S.contents stream.old) (S.contents stream.new) bytes.now) }
+    ensures unwritten { IfErr result (λ ended. IsUnwritten ended (S.contents stream.old)
+        (S.contents stream.new) bytes.now) }
 {
     let mut at = 0;
     while at < bytes.len() {

@@ -38,7 +38,8 @@ pub fn run_concentrator<
     // It is over as `run_node` and `run_merger` say, with what became of the sink and the mark.
     ensures over { IsOver concentrator.now plan.now.layout_every
         S.told (GivesFrom I.gave ticker) (K.took sink) K.failures_of
-        (found_begun M.stored M.is_broken M.failures mark (K.failures_of sink)) sources.items result }
+        (found_begun M.stored M.is_broken M.failures mark (K.failures_of sink)) sources.items
+        result }
 {
     let handed = Handed::<Beside<S, M, I, K>> {
         mark,

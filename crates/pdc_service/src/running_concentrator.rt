@@ -1,6 +1,7 @@
 //! Runs of a node and of the merger.
 ghost use Rattle.std.specs.Prelude.{◌≡◌, ◌≤◌, ◌+◌, Err, IsErrOf, Some, [], length, vec_len};
-ghost use Rattle.pdc_threads.specs.Ran.{EndedByMark, EndedBySink, PublishesAs, PublishesSo, stored_in};
+ghost use Rattle.pdc_threads.specs.Ran.{EndedByMark, EndedBySink, PublishesAs, PublishesSo};
+ghost use Rattle.pdc_threads.specs.Ran.{stored_in};
 ghost use Rattle.pdc_threads.specs.Opened.{IsOpenedWith};
 ghost use Rattle.pdc_threads.specs.Rate.{IsAtRate};
 ghost use Rattle.pdc_threads.specs.Run.{HasEach, HasRun, IsSummed};
@@ -9,7 +10,8 @@ ghost use Rattle.pdc_hub.specs.declared.fault.HubFault.TheVariants.{NoMemory};
 ghost use Rattle.pdc_life.specs.CoreKind.{OfMerger, OfNode};
 ghost use Rattle.pdc_publisher.specs.Publisher.{last_in, output_in};
 ghost use Rattle.pdc_service.specs.Running.{AreCutInto, AreCutSo, BeginsAs, EndedByBegun};
-ghost use Rattle.pdc_service.specs.Running.{HasSentOf, HasSentReady, WasLifeBy, WasLifeOf, WasLifeReady};
+ghost use Rattle.pdc_service.specs.Running.{HasSentOf, HasSentReady, WasLifeBy, WasLifeOf};
+ghost use Rattle.pdc_service.specs.Running.{WasLifeReady};
 
 use crate::handed::Handed;
 use pdc_core::{Core, Opens, Reads};

@@ -1,6 +1,7 @@
 //! A node and the merger, from their files to the end of their run.
 ghost use Rattle.std.specs.Prelude.{◌≡◌, IfOk, None, Some, vec_len};
-ghost use Rattle.pdc_service.specs.Serving.{OpensAndRuns, StartsAndRuns, steps_behind_links, steps_behind_mark};
+ghost use Rattle.pdc_service.specs.Serving.{OpensAndRuns, StartsAndRuns, steps_behind_links};
+ghost use Rattle.pdc_service.specs.Serving.{steps_behind_mark};
 ghost use Rattle.pdc_service.specs.Summed.{AreSums, HaveEach};
 ghost use Rattle.pdc_startup.specs.Begun.{begun_mark};
 ghost use Rattle.pdc_startup.specs.Concentrator.{IsMerger, IsNode, streams_of};
@@ -12,7 +13,6 @@ use crate::run_texts::{begun_text, unknown_text};
 use crate::serving::{Consumers, Opened, Serving, run_serving};
 use pdc_mark::Mark;
 use pdc_server::Seats;
-use pdc_settings::unknown_keys;
 use pdc_startup::{
     Begun, Described, Files, Link, Machine, Observed, OutputsSink, RunOptions, ServiceFault,
     TcpDialer,
@@ -39,7 +39,7 @@ struct Linked<S: Source + Drop, M: Mark + Drop> {
 /// Tells of the keys of the settings file that nothing reads: they are passed over, and may be slips.
 fn tell_unknown<R: Host>(rt: &R, observed: &Observed, file: &str, described: &Described) {
     let alloc = rt.alloc();
-    let Ok(unknown) = unknown_keys(alloc, described.text.as_str()) else {
+    let Ok(unknown) = described.document.unknown_keys(alloc) else {
         return;
     };
     for key in &unknown {
@@ -62,7 +62,8 @@ fn serve_linked<M: Machine, S: Source + Send + Drop, R: Host>(
     ensures totals { IfOk result AreSums }
     ensures each { IfOk result (HaveEach (streams_of described.now.concentrator)) }
     ensures opened { OpensAndRuns M.tried S.told M.fresh M.Outputs.took machine.old machine.new
-        described.now (Some (M.Mark.stored (begun_mark linked.mark))) (steps_behind_links files.now) result }
+        described.now (Some (M.Mark.stored (begun_mark linked.mark)))
+        (steps_behind_links files.now) result }
 {
     let alloc = rt.alloc();
     let concentrator = &described.concentrator;
@@ -117,7 +118,8 @@ fn serve_watched<'a, M: Machine, R: Host>(
     ensures each { IfOk result (HaveEach (streams_of described.now.concentrator)) }
     ensures opened { OpensAndRuns M.tried ⟦<Link<'a, R, M::Socket, TcpDialer<'a, R>> as Source>⟧.told
         M.fresh M.Outputs.took machine.old machine.new
-        described.now (Some (M.Mark.stored (begun_mark watched.entry.mark))) (steps_behind_mark files.now) result }
+        described.now (Some (M.Mark.stored (begun_mark watched.entry.mark)))
+        (steps_behind_mark files.now) result }
 {
     let Watched { mark, observed } = watched;
     let sources = machine.open_links(rt, described, observed)?;

@@ -261,7 +261,8 @@ fn run_observed<
     recent: &'s Recent<N>,
 ) -> Result<Totals, ServiceFault>
     requires { IsRunOf serving.now.concentrator.now (vec_len opened.sources) N.stream N.rate }
-    ensures { RanServing S.told (TicksBy T.showed opened.time (output_of serving.now.concentrator.now).rate)
+    ensures { RanServing S.told (TicksBy T.showed opened.time
+        (output_of serving.now.concentrator.now).rate)
         K.took M.stored serving.now.concentrator.now opened result }
 {
     let (options, observed) = (serving.options, serving.observed);
@@ -301,7 +302,8 @@ fn not_begun<S: Source + Drop, T: Timepiece + Drop, M: Mark + Drop, K: Sink + Dr
     opened: Opened<S, T, M, K>,
 ) -> Result<Totals, ServiceFault>
     ensures { (concentrator : Concentrator) → RanServing S.told
-        (TicksBy T.showed opened.time (output_of concentrator).rate) K.took M.stored concentrator opened result }
+        (TicksBy T.showed opened.time (output_of concentrator).rate) K.took M.stored concentrator
+        opened result }
 {
     drop(opened);
     Err(ServiceFault::Run(HubFault::NoMemory))
@@ -327,7 +329,8 @@ fn conduct<
     recent: &'s Recent<N>,
 ) -> Result<Totals, ServiceFault>
     requires { IsRunOf serving.now.concentrator.now (vec_len opened.sources) N.stream N.rate }
-    ensures { RanServing S.told (TicksBy T.showed opened.time (output_of serving.now.concentrator.now).rate)
+    ensures { RanServing S.told (TicksBy T.showed opened.time
+        (output_of serving.now.concentrator.now).rate)
         K.took M.stored serving.now.concentrator.now opened result }
 {
     let observed = serving.observed;
@@ -368,14 +371,16 @@ fn run_keeping<
     recent: &'x Recent<N>,
 ) -> Result<Totals, ServiceFault>
     requires { IsRunOf serving.now.concentrator.now (vec_len opened.sources) N.stream N.rate }
-    ensures { RanServing S.told (TicksBy T.showed opened.time (output_of serving.now.concentrator.now).rate)
+    ensures { RanServing S.told (TicksBy T.showed opened.time
+        (output_of serving.now.concentrator.now).rate)
         K.took M.stored serving.now.concentrator.now opened result }
 {
     thread::scope(
         thread::scope_env(),
         rt,
         move |scope| -> Result<Totals, ServiceFault>
-            requires { IsRunOf serving.now.concentrator.now (vec_len opened.sources) N.stream N.rate }
+            requires { IsRunOf serving.now.concentrator.now (vec_len opened.sources) N.stream
+                N.rate }
         { conduct(scope, rt, alloc, serving, opened, record, recent) },
     )
 }
@@ -396,7 +401,8 @@ fn run_named<
     record: Option<Series<'_>>,
 ) -> Result<Totals, ServiceFault>
     requires { IsRunOf serving.now.concentrator.now (vec_len opened.sources) N.stream N.rate }
-    ensures { RanServing S.told (TicksBy T.showed opened.time (output_of serving.now.concentrator.now).rate)
+    ensures { RanServing S.told (TicksBy T.showed opened.time
+        (output_of serving.now.concentrator.now).rate)
         K.took M.stored serving.now.concentrator.now opened result }
 {
     let output = serving.concentrator.output();
@@ -423,7 +429,8 @@ pub fn run_serving<
     requires { vec_len opened.sources ≡ streams_of serving.now.concentrator.now }
     // Its totals are the sums over the receivers, with an entry for each stream; it failed as runs do; and it was one life, of which its
     // sources gave what came, its timepiece showed the ticks, and its sink took what a run hands on.
-    ensures { RanServing S.told (TicksBy T.showed opened.time (output_of serving.now.concentrator.now).rate)
+    ensures { RanServing S.told (TicksBy T.showed opened.time
+        (output_of serving.now.concentrator.now).rate)
         K.took M.stored serving.now.concentrator.now opened result }
 {
     run_named::<S, T, M, K, Brand, R>(rt, alloc, serving, opened, record)

@@ -10,7 +10,7 @@ use Rattle.pdc_frame.specs.Frame.{Fields, IsFrame}
 use Rattle.pdc_frame.specs.Stream.{Held, HasTaken, IsBad, given_at, pending_of}
 use Rattle.pdc_frame.proofs.Framed.{length-spelling_of}
 use Rattle.pdc_frame.specs.declared.command.Command.{Command}
-use Rattle.pdc_session.specs.declared.told.Told.{Told}
+use Rattle.pdc_session.specs.declared.subscription.Subscription.{Subscription}
 use Rattle.pdc_session.specs.declared.serving.Serving.{Serving}
 use Rattle.pdc_session.specs.Session.{AreFew, AreTold, HasAnswered, HasRoom, Hears, LacksOne, Tells, needed_of, replies_of, reply_of, told_after, told_after_all}
 
@@ -32,7 +32,7 @@ told-append id [] more (c ∷ cs) others h k = absurd h
 told-append id (f ∷ fs) more [] others h k = absurd h
 told-append id (f ∷ fs) more (c ∷ cs) others h k = (h.0, told-append id fs more cs others h.1 k)
 
-pub after-append : (told : Told) (commands others : List (Option Command)) → told_after_all told (commands ++ others) ≡ told_after_all (told_after_all told commands) others
+pub after-append : (told : Subscription) (commands others : List (Option Command)) → told_after_all told (commands ++ others) ≡ told_after_all (told_after_all told commands) others
 after-append told [] others = refl
 after-append told (c ∷ cs) others = after-append (told_after told c) cs others
 
@@ -103,7 +103,7 @@ few_one piece a n frames step f mid new j some whole frame few =
     subst (λ (k : ℕ). AreFew (frames ++ new.bytes ∷ []) (length (take (a + n) piece)) k) (sym none)
     (one_more_few frames new.bytes (length (take a piece)) n (length (pending_of mid.step mid.bytes)) _ (taken_len piece a n j.within) some (omega (arith, joined_len piece a n step mid new j)) few)
 
-hears_more : (id : ℕ) (piece bytes : List ℕ) (a n : ℕ) (frames more : List (List ℕ)) (commands others : List (Option Command)) (step : Step) (held mid new : Held) (told after then_told : Told)
+hears_more : (id : ℕ) (piece bytes : List ℕ) (a n : ℕ) (frames more : List (List ℕ)) (commands others : List (Option Command)) (step : Step) (held mid new : Held) (told after then_told : Subscription)
     → Hears id (take a piece) frames commands held told mid after → Feeds (take n (take (length piece - a) (drop a piece))) mid step bytes new
     → given_at step bytes ≡ more → AreTold id more others → then_told ≡ told_after_all after others
     → AreFew (frames ++ more) (length (take (a + n) piece)) (length (pending_of new.step new.bytes))
@@ -111,11 +111,11 @@ hears_more : (id : ℕ) (piece bytes : List ℕ) (a n : ℕ) (frames more : List
 hears_more id piece bytes a n frames more commands others step held mid new told after then_told h feeds given tells later few = record {
   stream = stream_more piece bytes a n frames more step held mid new h.stream feeds given;
   tells = told-append id frames more commands others h.tells tells;
-  told_then = later ∙ ap (λ (t : Told). told_after_all t others) h.told_then ∙ sym (after-append told commands others);
+  told_then = later ∙ ap (λ (t : Subscription). told_after_all t others) h.told_then ∙ sym (after-append told commands others);
   few = few;
 }
 
-answered_more : (id : ℕ) (serving : Serving) (piece bytes : List ℕ) (a n : ℕ) (more : List (List ℕ)) (others : List (Option Command)) (step : Step) (held mid new : Held) (told after then_told : Told) (out grown longer : List ℕ)
+answered_more : (id : ℕ) (serving : Serving) (piece bytes : List ℕ) (a n : ℕ) (more : List (List ℕ)) (others : List (Option Command)) (step : Step) (held mid new : Held) (told after then_told : Subscription) (out grown longer : List ℕ)
     → (h : HasAnswered id serving (take a piece) held told out mid after grown) → Feeds (take n (take (length piece - a) (drop a piece))) mid step bytes new
     → given_at step bytes ≡ more → AreTold id more others → then_told ≡ told_after_all after others → longer ≡ grown ++ replies_of id serving others
     → AreFew (h.frames ++ more) (length (take (a + n) piece)) (length (pending_of new.step new.bytes))
@@ -129,7 +129,7 @@ answered_more id serving piece bytes a n more others step held mid new told afte
 }
 
 -- nothing is given: more bytes are wanted, or there is a fault
-pub answered_none : (id : ℕ) (serving : Serving) (piece bytes : List ℕ) (a n : ℕ) (step : Step) (held mid new : Held) (told after : Told) (out grown : List ℕ)
+pub answered_none : (id : ℕ) (serving : Serving) (piece bytes : List ℕ) (a n : ℕ) (step : Step) (held mid new : Held) (told after : Subscription) (out grown : List ℕ)
     → HasAnswered id serving (take a piece) held told out mid after grown → Feeds (take n (take (length piece - a) (drop a piece))) mid step bytes new → Joins piece a n step mid new
     → given_at step bytes ≡ [] → HasAnswered id serving (take (a + n) piece) held told out new after grown
 answered_none id serving piece bytes a n step held mid new told after out grown h feeds joins given =
@@ -151,7 +151,7 @@ pub bad_in_bad : (a b : Step) (fault : FrameFault) → a ≡ b → b ≡ Bad fau
 bad_in_bad a b fault e h = subst IsBad (sym (e ∙ h)) tt
 
 -- a frame is given, and its reply appended
-pub answered_one : (id : ℕ) (serving : Serving) (piece : List ℕ) (a n : ℕ) (step : Step) (f : Fields) (command : Option Command) (held mid new : Held) (told after then_told : Told) (out grown longer : List ℕ)
+pub answered_one : (id : ℕ) (serving : Serving) (piece : List ℕ) (a n : ℕ) (step : Step) (f : Fields) (command : Option Command) (held mid new : Held) (told after then_told : Subscription) (out grown longer : List ℕ)
     → HasAnswered id serving (take a piece) held told out mid after grown → Feeds (take n (take (length piece - a) (drop a piece))) mid step new.bytes new → Joins piece a n step mid new → 0 < n
     → step ≡ Whole → IsFrame new.bytes f → Tells id f command → then_told ≡ told_after after command → longer ≡ grown ++ reply_of id serving command
     → HasAnswered id serving (take (a + n) piece) held told out new then_told longer
@@ -161,7 +161,7 @@ answered_one id serving piece a n step f command held mid new told after then_to
     (few_one piece a n h.frames step f mid new joins some whole frame h.hears.few)
 
 -- a frame is given, and there is no room for its reply
-pub lacks_one : (id : ℕ) (serving : Serving) (piece : List ℕ) (a n : ℕ) (step : Step) (f : Fields) (command : Option Command) (held mid new : Held) (told after then_told : Told) (out grown same : List ℕ) (room : ℕ)
+pub lacks_one : (id : ℕ) (serving : Serving) (piece : List ℕ) (a n : ℕ) (step : Step) (f : Fields) (command : Option Command) (held mid new : Held) (told after then_told : Subscription) (out grown same : List ℕ) (room : ℕ)
     (Refused : ℕ → Type 0)
     → HasAnswered id serving (take a piece) held told out mid after grown → Feeds (take n (take (length piece - a) (drop a piece))) mid step new.bytes new → Joins piece a n step mid new → 0 < n
     → step ≡ Whole → IsFrame new.bytes f → Tells id f command → then_told ≡ told_after after command → same ≡ grown → (length same + length (reply_of id serving command) ≤ room → ⊥)
@@ -178,7 +178,7 @@ lacks_one id serving piece a n step f command held mid new told after then_told 
 }
 
 -- before the first byte
-pub answered_start : (id : ℕ) (serving : Serving) (held : Held) (told : Told) (out : List ℕ) → HasAnswered id serving [] held told out held told out
+pub answered_start : (id : ℕ) (serving : Serving) (held : Held) (told : Subscription) (out : List ℕ) → HasAnswered id serving [] held told out held told out
 answered_start id serving held told out = record {
   frames = [];
   commands = [];
@@ -191,7 +191,7 @@ answered_start id serving held told out = record {
   replies = sym (append-nil out);
 }
 
-pub answered_all : (id : ℕ) (serving : Serving) (piece : List ℕ) (at : ℕ) (held : Held) (told : Told) (out : List ℕ) (later : Held) (after : Told) (grown : List ℕ) → length piece ≤ at
+pub answered_all : (id : ℕ) (serving : Serving) (piece : List ℕ) (at : ℕ) (held : Held) (told : Subscription) (out : List ℕ) (later : Held) (after : Subscription) (grown : List ℕ) → length piece ≤ at
     → HasAnswered id serving (take at piece) held told out later after grown → HasAnswered id serving piece held told out later after grown
 answered_all id serving piece at held told out later after grown le h = subst (λ (xs : List ℕ). HasAnswered id serving xs held told out later after grown) (take_all at piece le) h
 
@@ -208,7 +208,7 @@ room_stays old new more first before room e stays in_place fits =
     in_place (omega arith) ∙ same
 
 -- where there was room for the replies, none is lacking
-pub lacks_none : (id : ℕ) (serving : Serving) (piece : List ℕ) (n : ℕ) (held later : Held) (told after : Told) (out grown : List ℕ) (before room : ℕ) (Refused : ℕ → Type 0) → n ≤ length piece
+pub lacks_none : (id : ℕ) (serving : Serving) (piece : List ℕ) (n : ℕ) (held later : Held) (told after : Subscription) (out grown : List ℕ) (before room : ℕ) (Refused : ℕ → Type 0) → n ≤ length piece
     → LacksOne id serving (take n piece) held told out later after grown room Refused → (length grown ≤ before → room ≡ before) → HasRoom id serving piece held told out before → ⊥
 lacks_none id serving piece n held later told after out grown before room Refused le h in_place has =
     let all : length out + length (replies_of id serving (h.commands ++ h.last ∷ [])) ≤ before = has n h.frames (h.commands ++ h.last ∷ []) later after le h.hears in

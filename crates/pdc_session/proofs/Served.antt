@@ -16,7 +16,7 @@ use Rattle.pdc_frame.specs.Command.{IsCommand}
 use Rattle.pdc_frame.specs.declared.command.Command.{Command}
 use Rattle.pdc_session.specs.declared.fault.SessionFault.{SessionFault}
 use Rattle.pdc_session.specs.declared.fault.SessionFault.TheVariants.{BadStream, NoMemory}
-use Rattle.pdc_session.specs.declared.told.Told.{Told}
+use Rattle.pdc_session.specs.declared.subscription.Subscription.{Subscription}
 use Rattle.pdc_session.specs.declared.serving.Serving.{Serving}
 use Rattle.pdc_session.specs.Session.{AreTold, HasAnswered, LacksOne, SessionView, Tells, replies_of, reply_of, told_after_all}
 use Rattle.pdc_session.specs.Served.{AreFed, HasServed, IsNew, Stands, told_nothing}
@@ -40,11 +40,11 @@ OneCommand = (f : Fields) (a b : Command) → IsCommand f a → IsCommand f b �
 
 -- ---- one piece more
 
-abbrev pub view : ℕ → Held → Told → Option SessionFault → SessionView
+abbrev pub view : ℕ → Held → Subscription → Option SessionFault → SessionView
 view id held told ended = record { id = id; held = held; told = told; ended = ended }
 
-told_more : (told after later : Told) (commands more : List (Option Command)) → after ≡ told_after_all told commands → later ≡ told_after_all after more → later ≡ told_after_all told (commands ++ more)
-told_more told after later commands more e h = h ∙ ap (λ (t : Told). told_after_all t more) e ∙ sym (after-append told commands more)
+told_more : (told after later : Subscription) (commands more : List (Option Command)) → after ≡ told_after_all told commands → later ≡ told_after_all after more → later ≡ told_after_all told (commands ++ more)
+told_more told after later commands more e h = h ∙ ap (λ (t : Subscription). told_after_all t more) e ∙ sym (after-append told commands more)
 
 replied_more : (id : ℕ) (serving : Serving) (base out grown : List ℕ) (answered more : List (Option Command)) → out ≡ base ++ replies_of id serving answered → grown ≡ out ++ replies_of id serving more
     → grown ≡ base ++ replies_of id serving (answered ++ more)
@@ -52,7 +52,7 @@ replied_more id serving base out grown answered more e h =
     h ∙ ap (λ (xs : List ℕ). xs ++ replies_of id serving more) e ∙ append_assoc base (replies_of id serving answered) (replies_of id serving more)
     ∙ ap (λ (xs : List ℕ). base ++ xs) (sym (flat_map-append (reply_of id serving) answered more))
 
-served_ok : (id : ℕ) (serving : Serving) (piece stream base : List ℕ) (held later : Held) (told after : Told) (out grown : List ℕ)
+served_ok : (id : ℕ) (serving : Serving) (piece stream base : List ℕ) (held later : Held) (told after : Subscription) (out grown : List ℕ)
     → HasAnswered id serving piece held told out later after grown → (IsBad later.step → ⊥)
     → HasServed serving stream base (view id held told None) out → HasServed serving (stream ++ piece) base (view id later after None) grown
 served_ok id serving piece stream base held later told after out grown h good s = record {
@@ -73,7 +73,7 @@ bad_fault (Bad fault) h = (fault, refl)
 all_of : (stream piece : List ℕ) (n : ℕ) → (stream ++ take n piece) ++ drop n piece ≡ stream ++ piece
 all_of stream piece n = append_assoc stream (take n piece) (drop n piece) ∙ ap (λ (xs : List ℕ). stream ++ xs) (take-append-drop n piece)
 
-served_bad : FramerLaw → (id : ℕ) (serving : Serving) (piece stream base : List ℕ) (n : ℕ) (held later : Held) (told after : Told) (out grown : List ℕ)
+served_bad : FramerLaw → (id : ℕ) (serving : Serving) (piece stream base : List ℕ) (n : ℕ) (held later : Held) (told after : Subscription) (out grown : List ℕ)
     → HasAnswered id serving (take n piece) held told out later after grown → IsBad later.step
     → HasServed serving stream base (view id held told None) out → HasServed serving (stream ++ piece) base (view id later after (Some BadStream)) grown
 served_bad law id serving piece stream base n held later told after out grown h bad s =
@@ -97,7 +97,7 @@ served_bad law id serving piece stream base n held later told after out grown h 
       );
     }
 
-served_lacking : (id : ℕ) (serving : Serving) (piece stream base : List ℕ) (n : ℕ) (held later : Held) (told after : Told) (out grown : List ℕ) (room : ℕ) (Refused : ℕ → Type 0)
+served_lacking : (id : ℕ) (serving : Serving) (piece stream base : List ℕ) (n : ℕ) (held later : Held) (told after : Subscription) (out grown : List ℕ) (room : ℕ) (Refused : ℕ → Type 0)
     → LacksOne id serving (take n piece) held told out later after grown room Refused
     → HasServed serving stream base (view id held told None) out → HasServed serving (stream ++ piece) base (view id later after (Some NoMemory)) grown
 served_lacking id serving piece stream base n held later told after out grown room Refused h s =
@@ -162,7 +162,7 @@ abbrev pub Ends : {T : Type 0} → Result T SessionFault → Option SessionFault
 Ends (Ok done) ended = ended ≡ None
 Ends (Err fault) ended = ended ≡ Some fault
 
-pub served_more : {T : Type 0} → FramerLaw → (id : ℕ) (serving : Serving) (piece stream base : List ℕ) (held later : Held) (told after : Told) (out grown : List ℕ) (room : ℕ) (Refused : ℕ → Type 0)
+pub served_more : {T : Type 0} → FramerLaw → (id : ℕ) (serving : Serving) (piece stream base : List ℕ) (held later : Held) (told after : Subscription) (out grown : List ℕ) (room : ℕ) (Refused : ℕ → Type 0)
     (answer : Result T SessionFault) (ended : Option SessionFault) → Ends answer ended → OnOk answer (IsBad later.step → ⊥)
     → OnOk answer (HasAnswered id serving piece held told out later after grown)
     → (IsErrOf answer BadStream → IsBad later.step × (n : ℕ) × (n ≤ length piece) × HasAnswered id serving (take n piece) held told out later after grown)

@@ -9,12 +9,12 @@ use Rattle.pdc_frame.specs.Stream.{Held, HasTaken, IsBad, IsWhole, Splits}
 use Rattle.pdc_frame.specs.declared.command.Command.{Command}
 use Rattle.pdc_session.specs.declared.fault.SessionFault.{SessionFault}
 use Rattle.pdc_session.specs.declared.fault.SessionFault.TheVariants.{BadStream, NoMemory}
-use Rattle.pdc_session.specs.declared.told.Told.{Told}
+use Rattle.pdc_session.specs.declared.subscription.Subscription.{Subscription}
 use Rattle.pdc_session.specs.declared.serving.Serving.{Serving}
 use Rattle.pdc_session.specs.Session.{AreTold, SessionView, replies_of, told_after_all}
 
 -- data is off, and no frame was ignored
-abbrev pub told_nothing : Told
+abbrev pub told_nothing : Subscription
 told_nothing = record { on = false; ignored = 0 }
 
 -- a session to which no byte came yet

@@ -11,14 +11,14 @@ use Rattle.pdc_frame.specs.Command.{IsCommand, header_fields}
 use Rattle.pdc_frame.specs.declared.command.Command.{Command}
 use Rattle.pdc_frame.specs.declared.command.Command.TheVariants.{DataOff, DataOn, SendHeader, SendCfg1, SendCfg2, SendCfg3}
 use Rattle.pdc_session.specs.declared.fault.SessionFault.{SessionFault}
-use Rattle.pdc_session.specs.declared.told.Told.{Told}
+use Rattle.pdc_session.specs.declared.subscription.Subscription.{Subscription}
 use Rattle.pdc_session.specs.declared.serving.Serving.{Serving}
 
 -- what a session is: its stream id, the framer of its stream, what it was told so far, and the fault that ended it
 pub record SessionView : Type 0 where
   pub id : ℕ
   pub held : Held
-  pub told : Told
+  pub told : Subscription
   pub ended : Option SessionFault
 
 -- The frame tells the stream this command; none where it is of another stream, or says no command.
@@ -41,7 +41,7 @@ abbrev pub counted : ℕ → ℕ
 counted n = min (n + 1) (2 ^ 64 - 1)
 
 -- what a frame makes of what a session was told: data on or off, or one more frame without an effect
-abbrev pub told_after : Told → Option Command → Told
+abbrev pub told_after : Subscription → Option Command → Subscription
 told_after told (Some DataOff) = record told { on = false }
 told_after told (Some DataOn) = record told { on = true }
 told_after told (Some SendHeader) = told
@@ -50,7 +50,7 @@ told_after told (Some SendCfg2) = told
 told_after told (Some SendCfg3) = record told { ignored = counted told.ignored }
 told_after told None = record told { ignored = counted told.ignored }
 
-abbrev pub told_after_all : Told → List (Option Command) → Told
+abbrev pub told_after_all : Subscription → List (Option Command) → Subscription
 told_after_all told [] = told
 told_after_all told (command ∷ commands) = told_after_all (told_after told command) commands
 
@@ -83,21 +83,21 @@ pub worked : OVERHEAD * 2 + 0 ≡ 17 + (OVERHEAD - 1)
 worked = refl
 
 -- With these bytes a session goes on from one state to another: these frames end in them, and tell these commands.
-pub record Hears (id : ℕ) (piece : List ℕ) (frames : List (List ℕ)) (commands : List (Option Command)) (held : Held) (told : Told) (later : Held) (after : Told) : Type 0 where
+pub record Hears (id : ℕ) (piece : List ℕ) (frames : List (List ℕ)) (commands : List (Option Command)) (held : Held) (told : Subscription) (later : Held) (after : Subscription) : Type 0 where
   pub stream : (stream : List ℕ) (before : List (List ℕ)) → HasTaken stream before held → HasTaken (stream ++ piece) (before ++ frames) later
   pub tells : AreTold id frames commands
   pub told_then : after ≡ told_after_all told commands
   pub few : AreFew frames (length piece) (length (pending_of later.step later.bytes))
 
 -- With this piece a session goes on, and the replies to the frames that end in it were appended, in order.
-pub record HasAnswered (id : ℕ) (serving : Serving) (piece : List ℕ) (held : Held) (told : Told) (out : List ℕ) (later : Held) (after : Told) (grown : List ℕ) : Type 0 where
+pub record HasAnswered (id : ℕ) (serving : Serving) (piece : List ℕ) (held : Held) (told : Subscription) (out : List ℕ) (later : Held) (after : Subscription) (grown : List ℕ) : Type 0 where
   pub frames : List (List ℕ)
   pub commands : List (Option Command)
   pub hears : Hears id piece frames commands held told later after
   pub replies : grown ≡ out ++ replies_of id serving commands
 
 -- The replies to all of them but the last were; there is no room for that one, and a request for it was refused.
-pub record LacksOne (id : ℕ) (serving : Serving) (piece : List ℕ) (held : Held) (told : Told) (out : List ℕ) (later : Held) (after : Told) (grown : List ℕ) (room : ℕ) (Refused : ℕ → Type 0) : Type 0 where
+pub record LacksOne (id : ℕ) (serving : Serving) (piece : List ℕ) (held : Held) (told : Subscription) (out : List ℕ) (later : Held) (after : Subscription) (grown : List ℕ) (room : ℕ) (Refused : ℕ → Type 0) : Type 0 where
   pub frames : List (List ℕ)
   pub commands : List (Option Command)
   pub last : Option Command
@@ -107,6 +107,6 @@ pub record LacksOne (id : ℕ) (serving : Serving) (piece : List ℕ) (held : He
   pub refused : Refused (needed_of serving last)
 
 -- There is room for the replies to whatever frames end in a beginning of this piece.
-abbrev pub HasRoom : (id : ℕ) → Serving → (piece : List ℕ) → Held → Told → (out : List ℕ) → (room : ℕ) → Type 0
-HasRoom id serving piece held told out room = (n : ℕ) (frames : List (List ℕ)) (commands : List (Option Command)) (later : Held) (after : Told) → n ≤ length piece
+abbrev pub HasRoom : (id : ℕ) → Serving → (piece : List ℕ) → Held → Subscription → (out : List ℕ) → (room : ℕ) → Type 0
+HasRoom id serving piece held told out room = (n : ℕ) (frames : List (List ℕ)) (commands : List (Option Command)) (later : Held) (after : Subscription) → n ≤ length piece
     → Hears id (take n piece) frames commands held told later after → length out + length (replies_of id serving commands) ≤ room

@@ -1,5 +1,6 @@
 //! The client.
-ghost use Rattle.std.specs.Prelude.{◌≡◌, ◌⊎◌, ◌≤◌, ◌<◌, ◌+◌, ◌-◌, ℕ, [], length, None, IfOk, IsErrOf, IsOkAnd, OnErr, OnOk, is_err};
+ghost use Rattle.std.specs.Prelude.{◌≡◌, ◌⊎◌, ◌≤◌, ◌<◌, ◌+◌, ◌-◌, ℕ, [], length, None, IfOk};
+ghost use Rattle.std.specs.Prelude.{IsErrOf, IsOkAnd, OnErr, OnOk, is_err};
 ghost use Rattle.std.specs.Io.KnownBytes.{Appends};
 ghost use Rattle.pdc_frame.specs.Frame.{Fields, IsFrame, spelling_of};
 ghost use Rattle.pdc_frame.specs.Stream.{HasTaken};
@@ -37,7 +38,8 @@ pub struct Pdc<S, A: Allocator = Global> {
 }
 
 impl<S: Read + Write, A: Allocator> Pdc<S, A> {
-    ghost use Rattle.pdc_session.specs.Client.{KeepsFaults, ended_in, faults_in, held_in, id_in, reads_in, reads_left_in, stream_in, unread_in};
+    ghost use Rattle.pdc_session.specs.Client.{KeepsFaults, ended_in, faults_in, held_in, id_in};
+    ghost use Rattle.pdc_session.specs.Client.{reads_in, reads_left_in, stream_in, unread_in};
 
     /// A client of the stream `id`. It reads and writes nothing yet.
     ///
@@ -91,12 +93,16 @@ impl<S: Read + Write, A: Allocator> Pdc<S, A> {
     /// Writes a command.
     fn order(&mut self, command: Command) -> Result<(), ClientFault>
         ensures keeps { KeepsFaults self.old self.new result }
-        ensures ok { OnOk result (Appends (S.contents (stream_in self.old)) (S.contents (stream_in self.new)) (spelling_of (command_fields (id_in self.old) COMMAND_SOC command))) }
-        ensures fault { ended_in self.old ≡ None → OnErr result (IsErrOf result ClientFault.Device) }
+        ensures ok { OnOk result (Appends (S.contents (stream_in self.old))
+            (S.contents (stream_in self.new)) (spelling_of
+            (command_fields (id_in self.old) COMMAND_SOC command))) }
+        ensures fault { ended_in self.old ≡ None →
+            OnErr result (IsErrOf result ClientFault.Device) }
         ensures held { held_in self.new ≡ held_in self.old }
         ensures unread { unread_in self.new ≡ unread_in self.old }
         ensures reads { reads_in self.new ≡ reads_in self.old }
-        ensures device { ended_in self.old ≡ None → faults_in self.new ≡ faults_after (is_err result) (faults_in self.old) }
+        ensures device { ended_in self.old ≡ None →
+            faults_in self.new ≡ faults_after (is_err result) (faults_in self.old) }
     {
         if let Some(fault) = self.ended {
             return Err(fault);
@@ -111,10 +117,17 @@ impl<S: Read + Write, A: Allocator> Pdc<S, A> {
     /// Reads up to the end of the next frame of this kind.
     fn find(&mut self, kind: Kind) -> Result<(), ClientFault>
         ensures keeps { KeepsFaults self.old self.new result }
-        ensures searches { ended_in self.old ≡ None → Searches (id_in self.old) kind (held_in self.old) (unread_in self.old) (S.remaining (stream_in self.old)) (held_in self.new) (unread_in self.new) (S.remaining (stream_in self.new)) (reads_left_in self.new) result }
+        ensures searches { ended_in self.old ≡ None →
+            Searches (id_in self.old) kind (held_in self.old) (unread_in self.old)
+            (S.remaining (stream_in self.old)) (held_in self.new) (unread_in self.new)
+            (S.remaining (stream_in self.new)) (reads_left_in self.new) result }
         ensures memory { ended_in self.old ≡ None → IsErrOf result ClientFault.NoMemory → ⊥ }
-        ensures reads { ended_in self.old ≡ None → (reads_left_in self.new ≤ MAX_READS) × (reads_in self.new ≡ reads_after (MAX_READS - reads_left_in self.new) (reads_in self.old)) }
-        ensures device { ended_in self.old ≡ None → faults_in self.new ≡ faults_after (is_device result) (faults_in self.old) }
+        ensures reads { ended_in self.old ≡ None →
+            (reads_left_in self.new ≤ MAX_READS)
+            × (reads_in self.new ≡ reads_after (MAX_READS - reads_left_in self.new)
+            (reads_in self.old)) }
+        ensures device { ended_in self.old ≡ None →
+            faults_in self.new ≡ faults_after (is_device result) (faults_in self.old) }
         ensures few { reads_in self.new ≤ reads_in self.old + MAX_READS }
     {
         if let Some(fault) = self.ended {
@@ -170,12 +183,20 @@ impl<S: Read + Write, A: Allocator> Pdc<S, A> {
     /// request for the answer's bytes was refused. Each ends the client: every later call answers it again.
     pub fn get<B: Allocator>(&mut self, alloc: B) -> Result<Vec<u8, B>, ClientFault>
         ensures keeps { KeepsFaults self.old self.new result }
-        ensures searches { ended_in self.old ≡ None → Searches (id_in self.old) DataFrame (held_in self.old) (unread_in self.old) (S.remaining (stream_in self.old)) (held_in self.new) (unread_in self.new) (S.remaining (stream_in self.new)) (reads_left_in self.new) result }
+        ensures searches { ended_in self.old ≡ None →
+            Searches (id_in self.old) DataFrame (held_in self.old) (unread_in self.old)
+            (S.remaining (stream_in self.old)) (held_in self.new) (unread_in self.new)
+            (S.remaining (stream_in self.new)) (reads_left_in self.new) result }
         ensures answer { IfOk result (λ bytes. bytes.items ≡ (held_in self.new).bytes) }
-        ensures refused { ended_in self.old ≡ None → IsErrOf result ClientFault.NoMemory → WasRefused (length (held_in self.new).bytes) }
+        ensures refused { ended_in self.old ≡ None → IsErrOf result ClientFault.NoMemory →
+            WasRefused (length (held_in self.new).bytes) }
         ensures few { reads_in self.new ≤ reads_in self.old + MAX_READS }
-        ensures reads { ended_in self.old ≡ None → (reads_left_in self.new ≤ MAX_READS) × (reads_in self.new ≡ reads_after (MAX_READS - reads_left_in self.new) (reads_in self.old)) }
-        ensures device { ended_in self.old ≡ None → faults_in self.new ≡ faults_after (is_device result) (faults_in self.old) }
+        ensures reads { ended_in self.old ≡ None →
+            (reads_left_in self.new ≤ MAX_READS)
+            × (reads_in self.new ≡ reads_after (MAX_READS - reads_left_in self.new)
+            (reads_in self.old)) }
+        ensures device { ended_in self.old ≡ None →
+            faults_in self.new ≡ faults_after (is_device result) (faults_in self.old) }
     {
         self.find(Kind::DataFrame)?;
         let copy = copy_of(alloc, self.framer.frame());
@@ -190,13 +211,21 @@ impl<S: Read + Write, A: Allocator> Pdc<S, A> {
     pub fn get_config<B: Allocator>(&mut self, alloc: B) -> Result<Vec<u8, B>, ClientFault>
         ensures keeps { KeepsFaults self.old self.new result }
         ensures searches { ended_in self.old ≡ None → IsErrOf result ClientFault.Device
-            ⊎ ((asked : S) × Appends (S.contents (stream_in self.old)) (S.contents asked) (spelling_of (command_fields (id_in self.old) COMMAND_SOC Command.SendCfg2))
-            × Searches (id_in self.old) Cfg2 (held_in self.old) (unread_in self.old) (S.remaining asked) (held_in self.new) (unread_in self.new) (S.remaining (stream_in self.new)) (reads_left_in self.new) result) }
+            ⊎ ((asked : S) × Appends (S.contents (stream_in self.old)) (S.contents asked)
+            (spelling_of (command_fields (id_in self.old) COMMAND_SOC Command.SendCfg2))
+            × Searches (id_in self.old) Cfg2 (held_in self.old) (unread_in self.old)
+            (S.remaining asked) (held_in self.new) (unread_in self.new)
+            (S.remaining (stream_in self.new)) (reads_left_in self.new) result) }
         ensures answer { IfOk result (λ bytes. bytes.items ≡ (held_in self.new).bytes) }
-        ensures refused { ended_in self.old ≡ None → IsErrOf result ClientFault.NoMemory → WasRefused (length (held_in self.new).bytes) }
+        ensures refused { ended_in self.old ≡ None → IsErrOf result ClientFault.NoMemory →
+            WasRefused (length (held_in self.new).bytes) }
         ensures few { reads_in self.new ≤ reads_in self.old + MAX_READS }
-        ensures reads { ended_in self.old ≡ None → IsErrOf result ClientFault.Device ⊎ ((reads_left_in self.new ≤ MAX_READS) × (reads_in self.new ≡ reads_after (MAX_READS - reads_left_in self.new) (reads_in self.old))) }
-        ensures device { ended_in self.old ≡ None → faults_in self.new ≡ faults_after (is_device result) (faults_in self.old) }
+        ensures reads { ended_in self.old ≡ None →
+            IsErrOf result ClientFault.Device ⊎ ((reads_left_in self.new ≤ MAX_READS)
+            × (reads_in self.new ≡ reads_after (MAX_READS - reads_left_in self.new)
+            (reads_in self.old))) }
+        ensures device { ended_in self.old ≡ None →
+            faults_in self.new ≡ faults_after (is_device result) (faults_in self.old) }
     {
         self.order(Command::SendCfg2)?;
         self.find(Kind::Cfg2)?;
@@ -212,13 +241,22 @@ impl<S: Read + Write, A: Allocator> Pdc<S, A> {
     pub fn get_header<B: Allocator>(&mut self, alloc: B) -> Result<Vec<u8, B>, ClientFault>
         ensures keeps { KeepsFaults self.old self.new result }
         ensures searches { ended_in self.old ≡ None → IsErrOf result ClientFault.Device
-            ⊎ ((asked : S) × Appends (S.contents (stream_in self.old)) (S.contents asked) (spelling_of (command_fields (id_in self.old) COMMAND_SOC Command.SendHeader))
-            × Searches (id_in self.old) HeaderFrame (held_in self.old) (unread_in self.old) (S.remaining asked) (held_in self.new) (unread_in self.new) (S.remaining (stream_in self.new)) (reads_left_in self.new) result) }
-        ensures answer { IfOk result (λ text. (f : Fields) × IsFrame (held_in self.new).bytes f × (text.items ≡ f.payload)) }
-        ensures refused { ended_in self.old ≡ None → IsErrOf result ClientFault.NoMemory → (f : Fields) × IsFrame (held_in self.new).bytes f × WasRefused (length f.payload) }
+            ⊎ ((asked : S) × Appends (S.contents (stream_in self.old)) (S.contents asked)
+            (spelling_of (command_fields (id_in self.old) COMMAND_SOC Command.SendHeader))
+            × Searches (id_in self.old) HeaderFrame (held_in self.old) (unread_in self.old)
+            (S.remaining asked) (held_in self.new) (unread_in self.new)
+            (S.remaining (stream_in self.new)) (reads_left_in self.new) result) }
+        ensures answer { IfOk result (λ text. (f : Fields) × IsFrame (held_in self.new).bytes f
+            × (text.items ≡ f.payload)) }
+        ensures refused { ended_in self.old ≡ None → IsErrOf result ClientFault.NoMemory →
+            (f : Fields) × IsFrame (held_in self.new).bytes f × WasRefused (length f.payload) }
         ensures few { reads_in self.new ≤ reads_in self.old + MAX_READS }
-        ensures reads { ended_in self.old ≡ None → IsErrOf result ClientFault.Device ⊎ ((reads_left_in self.new ≤ MAX_READS) × (reads_in self.new ≡ reads_after (MAX_READS - reads_left_in self.new) (reads_in self.old))) }
-        ensures device { ended_in self.old ≡ None → faults_in self.new ≡ faults_after (is_device result) (faults_in self.old) }
+        ensures reads { ended_in self.old ≡ None →
+            IsErrOf result ClientFault.Device ⊎ ((reads_left_in self.new ≤ MAX_READS)
+            × (reads_in self.new ≡ reads_after (MAX_READS - reads_left_in self.new)
+            (reads_in self.old))) }
+        ensures device { ended_in self.old ≡ None →
+            faults_in self.new ≡ faults_after (is_device result) (faults_in self.old) }
     {
         self.order(Command::SendHeader)?;
         self.find(Kind::HeaderFrame)?;
@@ -233,12 +271,16 @@ impl<S: Read + Write, A: Allocator> Pdc<S, A> {
     /// `Device` where the command could not be written. It ends the client: every later call answers it again.
     pub fn start(&mut self) -> Result<(), ClientFault>
         ensures keeps { KeepsFaults self.old self.new result }
-        ensures ok { OnOk result (Appends (S.contents (stream_in self.old)) (S.contents (stream_in self.new)) (spelling_of (command_fields (id_in self.old) COMMAND_SOC Command.DataOn))) }
-        ensures fault { ended_in self.old ≡ None → OnErr result (IsErrOf result ClientFault.Device) }
+        ensures ok { OnOk result (Appends (S.contents (stream_in self.old))
+            (S.contents (stream_in self.new)) (spelling_of
+            (command_fields (id_in self.old) COMMAND_SOC Command.DataOn))) }
+        ensures fault { ended_in self.old ≡ None →
+            OnErr result (IsErrOf result ClientFault.Device) }
         ensures held { held_in self.new ≡ held_in self.old }
         ensures unread { unread_in self.new ≡ unread_in self.old }
         ensures reads { reads_in self.new ≡ reads_in self.old }
-        ensures device { ended_in self.old ≡ None → faults_in self.new ≡ faults_after (is_err result) (faults_in self.old) }
+        ensures device { ended_in self.old ≡ None →
+            faults_in self.new ≡ faults_after (is_err result) (faults_in self.old) }
     {
         self.order(Command::DataOn)
     }
@@ -250,12 +292,16 @@ impl<S: Read + Write, A: Allocator> Pdc<S, A> {
     /// Those of [`start`](Pdc::start).
     pub fn stop(&mut self) -> Result<(), ClientFault>
         ensures keeps { KeepsFaults self.old self.new result }
-        ensures ok { OnOk result (Appends (S.contents (stream_in self.old)) (S.contents (stream_in self.new)) (spelling_of (command_fields (id_in self.old) COMMAND_SOC Command.DataOff))) }
-        ensures fault { ended_in self.old ≡ None → OnErr result (IsErrOf result ClientFault.Device) }
+        ensures ok { OnOk result (Appends (S.contents (stream_in self.old))
+            (S.contents (stream_in self.new)) (spelling_of
+            (command_fields (id_in self.old) COMMAND_SOC Command.DataOff))) }
+        ensures fault { ended_in self.old ≡ None →
+            OnErr result (IsErrOf result ClientFault.Device) }
         ensures held { held_in self.new ≡ held_in self.old }
         ensures unread { unread_in self.new ≡ unread_in self.old }
         ensures reads { reads_in self.new ≡ reads_in self.old }
-        ensures device { ended_in self.old ≡ None → faults_in self.new ≡ faults_after (is_err result) (faults_in self.old) }
+        ensures device { ended_in self.old ≡ None →
+            faults_in self.new ≡ faults_after (is_err result) (faults_in self.old) }
     {
         self.order(Command::DataOff)
     }
@@ -263,10 +309,13 @@ impl<S: Read + Write, A: Allocator> Pdc<S, A> {
     /// Asks for no more data, and gives the reader and writer back, with the fault where it met one or had ended before. A client that
     /// had ended writes nothing.
     pub fn quit(self) -> (S, Result<(), ClientFault>)
-        ensures ok { OnOk result.1 (Appends (S.contents (stream_in self)) (S.contents result.0) (spelling_of (command_fields (id_in self) COMMAND_SOC Command.DataOff))) }
-        ensures fault { ended_in self ≡ None → OnErr result.1 (IsErrOf result.1 ClientFault.Device) }
+        ensures ok { OnOk result.1 (Appends (S.contents (stream_in self)) (S.contents result.0)
+            (spelling_of (command_fields (id_in self) COMMAND_SOC Command.DataOff))) }
+        ensures fault { ended_in self ≡ None →
+            OnErr result.1 (IsErrOf result.1 ClientFault.Device) }
         ensures goes_on { OnOk result.1 (ended_in self ≡ None) }
-        ensures stays { (fault : ClientFault) → ended_in self ≡ Some fault → IsErrOf result.1 fault × (result.0 ≡ stream_in self) }
+        ensures stays { (fault : ClientFault) → ended_in self ≡ Some fault →
+            IsErrOf result.1 fault × (result.0 ≡ stream_in self) }
     {
         let mut pdc = self;
         let answer = pdc.order(Command::DataOff);

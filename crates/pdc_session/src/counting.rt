@@ -93,7 +93,8 @@ impl<S: Read> Counting<S> {
     pub fn read(&mut self, buffer: &mut [u8]) -> io::Result<usize>
         ensures kept { length buffer.new ≡ length buffer.old }
         ensures bound { ReadsAtMost result buffer.new }
-        ensures bytes { ReadConsumes (S.remaining (inner_of self.old)) (S.remaining (inner_of self.new)) result buffer.new }
+        ensures bytes { ReadConsumes (S.remaining (inner_of self.old))
+            (S.remaining (inner_of self.new)) result buffer.new }
         ensures reads { reads_of self.new ≡ reads_after 1 (reads_of self.old) }
         ensures faults { faults_of self.new ≡ faults_after (is_fault result) (faults_of self.old) }
     {
@@ -115,7 +116,8 @@ impl<S: Write> Counting<S> {
     ///
     /// What the writer answers. It may have taken some of the bytes.
     pub fn write(&mut self, bytes: &[u8]) -> io::Result<()>
-        ensures bytes { OnOk result (Appends (S.contents (inner_of self.old)) (S.contents (inner_of self.new)) bytes.now) }
+        ensures bytes { OnOk result (Appends (S.contents (inner_of self.old))
+            (S.contents (inner_of self.new)) bytes.now) }
         ensures reads { reads_of self.new ≡ reads_of self.old }
         ensures faults { faults_of self.new ≡ faults_after (is_err result) (faults_of self.old) }
     {

@@ -1,5 +1,6 @@
 //! Laws of sessions: each is the contract of a function that does nothing but call the laws that it stands on.
-ghost use Rattle.pdc_session.specs.Served.{MemoryCutsShort, PiecesAreTheStream, StreamsAreAnsweredInOneWay};
+ghost use Rattle.pdc_session.specs.Served.{MemoryCutsShort, PiecesAreTheStream};
+ghost use Rattle.pdc_session.specs.Served.{StreamsAreAnsweredInOneWay};
 
 use pdc_frame::{
     commands_are_read_in_one_way, frames_are_read_in_one_way, streams_split_in_one_way,

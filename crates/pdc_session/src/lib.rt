@@ -19,8 +19,8 @@ mod recent;
 mod search;
 mod serving;
 mod session;
+mod subscription;
 mod telling;
-mod told;
 mod unread;
 
 pub use client::Pdc;
@@ -35,6 +35,6 @@ pub use recent::{Frames, KEPT_FRAMES};
 pub use search::{MAX_FRAMES, MAX_READS};
 pub use serving::Serving;
 pub use session::Session;
+pub use subscription::Subscription;
 pub use telling::{command_frame, tell};
-pub use told::Told;
 pub use unread::{Unread, blank_piece};

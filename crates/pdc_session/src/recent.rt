@@ -1,7 +1,9 @@
 //! The frames that were sent last.
-ghost use Rattle.std.specs.Prelude.{◌≡◌, ◌⊎◌, ◌+◌, ◌<◌, ◌≤◌, ◌++◌, ℕ, [], ◌∷◌, length, map, true, false, None, IfOk, IsOk, OnOk, OnErr};
+ghost use Rattle.std.specs.Prelude.{◌≡◌, ◌⊎◌, ◌+◌, ◌<◌, ◌≤◌, ◌++◌, ℕ, [], ◌∷◌, length, map, true};
+ghost use Rattle.std.specs.Prelude.{false, None, IfOk, IsOk, OnOk, OnErr};
 ghost use Rattle.pdc_memory.specs.Asking.{WasRefused};
-ghost use Rattle.pdc_session.specs.Recent.{AreRising, above, bytes_of, frame_of, greatest_of, is_old, last_256, pushed};
+ghost use Rattle.pdc_session.specs.Recent.{AreRising, above, bytes_of, frame_of, greatest_of};
+ghost use Rattle.pdc_session.specs.Recent.{is_old, last_256, pushed};
 
 use pdc_frame::Buffer;
 use pdc_memory::{Held, HeldQueue};
@@ -44,8 +46,10 @@ impl<A: Allocator> Model for Frames<A> {
 
 /// How many bytes the frames above the instant have; none where a `usize` cannot tell.
 fn len_above<A: Allocator>(frames: &HeldQueue<SentFrame<A>, A>, instant: u64) -> Option<usize>
-    ensures some { (n : ℕ) → result ≡ Some n → n ≡ length (bytes_of (above instant (map frame_of frames.now.items))) }
-    ensures none { result ≡ None → usize.MAX < length (bytes_of (above instant (map frame_of frames.now.items))) }
+    ensures some { (n : ℕ) → result ≡ Some n →
+        n ≡ length (bytes_of (above instant (map frame_of frames.now.items))) }
+    ensures none { result ≡ None → usize.MAX < length
+        (bytes_of (above instant (map frame_of frames.now.items))) }
 {
     let mut wanted: usize = 0;
     for place in 0..frames.len() {
@@ -63,8 +67,10 @@ fn append_above<B: Buffer, A: Allocator>(
     instant: u64,
     out: &mut B,
 ) -> u64
-    requires { length (B.content out.old) + length (bytes_of (above instant (map frame_of frames.now.items))) ≤ B.capacity out.old }
-    ensures bytes { B.content out.new ≡ B.content out.old ++ bytes_of (above instant (map frame_of frames.now.items)) }
+    requires { length (B.content out.old) +
+        length (bytes_of (above instant (map frame_of frames.now.items))) ≤ B.capacity out.old }
+    ensures bytes { B.content out.new ≡ B.content out.old ++
+        bytes_of (above instant (map frame_of frames.now.items)) }
     ensures in_place { B.capacity out.new ≡ B.capacity out.old }
     ensures greatest { result ≡ greatest_of instant (above instant (map frame_of frames.now.items)) }
 {
@@ -82,7 +88,8 @@ fn append_above<B: Buffer, A: Allocator>(
 /// Keeps a frame behind the others; the oldest of 256 goes.
 fn keep_last<A: Allocator>(frames: &mut HeldQueue<SentFrame<A>, A>, frame: SentFrame<A>)
     requires { frames.old.capacity ≡ KEPT_FRAMES }
-    ensures items { map frame_of frames.new.items ≡ last_256 (map frame_of frames.old.items ++ frame_of frame ∷ []) }
+    ensures items { map frame_of frames.new.items ≡
+        last_256 (map frame_of frames.old.items ++ frame_of frame ∷ []) }
     ensures room { frames.new.capacity ≡ KEPT_FRAMES }
 {
     if frames.len() >= KEPT_FRAMES {
@@ -114,7 +121,8 @@ impl<A: Allocator> Frames<A> {
     ///
     /// [`AllocError`] where a request for the frame's bytes was refused. Nothing is changed then.
     pub fn push(&mut self, alloc: A, instant: u64, bytes: &[u8]) -> Result<(), AllocError>
-        ensures later { is_old self.old.greatest instant ≡ false → OnOk result (self.new ≡ pushed self.old instant bytes.now) }
+        ensures later { is_old self.old.greatest instant ≡ false →
+            OnOk result (self.new ≡ pushed self.old instant bytes.now) }
         ensures old { is_old self.old.greatest instant ≡ true → OnOk result (self.new ≡ self.old) }
         ensures err { OnErr result (self.new ≡ self.old) }
         ensures new { OnErr result (is_old self.old.greatest instant ≡ false) }
@@ -137,16 +145,23 @@ impl<A: Allocator> Frames<A> {
     /// [`AllocError`] where `out` has no room for them, and its request for it was refused; where a `usize` cannot tell how many bytes they
     /// have, its request for as many as it can tell. `out` is unchanged then.
     pub fn after<B: Buffer>(&self, instant: u64, out: &mut B) -> Result<u64, AllocError>
-        ensures bytes { OnOk result (B.content out.new ≡ B.content out.old ++ bytes_of (above instant self.now.frames)) }
-        ensures greatest { IfOk result (λ greatest. greatest ≡ greatest_of instant (above instant self.now.frames)) }
+        ensures bytes { OnOk result (B.content out.new ≡ B.content out.old ++
+            bytes_of (above instant self.now.frames)) }
+        ensures greatest { IfOk result (λ greatest. greatest ≡
+            greatest_of instant (above instant self.now.frames)) }
         ensures rising { AreRising (above instant self.now.frames) }
         ensures few { length self.now.frames ≤ KEPT_FRAMES }
         ensures err { OnErr result (B.content out.new ≡ B.content out.old) }
-        ensures room { length (B.content out.old) + length (bytes_of (above instant self.now.frames)) ≤ B.capacity out.old
+        ensures room { length (B.content out.old) +
+            length (bytes_of (above instant self.now.frames)) ≤ B.capacity out.old
             → length (bytes_of (above instant self.now.frames)) ≤ usize.MAX → IsOk result }
-        ensures in_place { length (B.content out.old) + length (bytes_of (above instant self.now.frames)) ≤ B.capacity out.old → B.capacity out.new ≡ B.capacity out.old }
-        ensures refused { OnErr result (B.refused out.new (length (bytes_of (above instant self.now.frames)))
-            ⊎ ((usize.MAX < length (bytes_of (above instant self.now.frames))) × (B.refused out.new usize.MAX ⊎ (usize.MAX ≤ B.capacity out.new)))) }
+        ensures in_place { length (B.content out.old) +
+            length (bytes_of (above instant self.now.frames)) ≤ B.capacity out.old →
+            B.capacity out.new ≡ B.capacity out.old }
+        ensures refused { OnErr result (B.refused out.new
+            (length (bytes_of (above instant self.now.frames)))
+            ⊎ ((usize.MAX < length (bytes_of (above instant self.now.frames)))
+            × (B.refused out.new usize.MAX ⊎ (usize.MAX ≤ B.capacity out.new)))) }
     {
         let Some(wanted) = len_above(&self.ring, instant) else {
             out.make_room(usize::MAX)?;

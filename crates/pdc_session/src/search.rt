@@ -26,8 +26,10 @@ fn read_more<R: Read, A: Allocator>(
     reader: &mut Counting<R>,
 ) -> Result<(), ClientFault>
     requires { unread.old ≡ [] }
-    ensures ok { OnOk result (Consumes (R.remaining (inner_of reader.old)) (R.remaining (inner_of reader.new)) unread.new) }
-    ensures end { IsErrOf result ClientFault.NoAnswer → IsAtEnd (R.remaining (inner_of reader.new)) }
+    ensures ok { OnOk result (Consumes (R.remaining (inner_of reader.old))
+        (R.remaining (inner_of reader.new)) unread.new) }
+    ensures end { IsErrOf result ClientFault.NoAnswer →
+        IsAtEnd (R.remaining (inner_of reader.new)) }
     ensures bad { IsErrOf result ClientFault.BadStream → ⊥ }
     ensures memory { IsErrOf result ClientFault.NoMemory → ⊥ }
     ensures reads { reads_of reader.new ≡ reads_after 1 (reads_of reader.old) }
@@ -48,13 +50,16 @@ fn next_frame<R: Read, A: Allocator>(
     reader: &mut Counting<R>,
     reads: &mut u32,
 ) -> Result<(), ClientFault>
-    ensures ok { OnOk result (Follows framer.old unread.old (R.remaining (inner_of reader.old)) (framer.new.bytes ∷ []) framer.new unread.new (R.remaining (inner_of reader.new))) }
+    ensures ok { OnOk result (Follows framer.old unread.old (R.remaining (inner_of reader.old))
+        (framer.new.bytes ∷ []) framer.new unread.new (R.remaining (inner_of reader.new))) }
     ensures whole { OnOk result (framer.new.step ≡ Whole) }
     ensures bad { IsErrOf result ClientFault.BadStream → IsBad framer.new.step }
-    ensures no_answer { IsErrOf result ClientFault.NoAnswer → (reads.new ≡ 0) ⊎ IsAtEnd (R.remaining (inner_of reader.new)) }
+    ensures no_answer { IsErrOf result ClientFault.NoAnswer →
+        (reads.new ≡ 0) ⊎ IsAtEnd (R.remaining (inner_of reader.new)) }
     ensures memory { IsErrOf result ClientFault.NoMemory → ⊥ }
     ensures few { reads.new ≤ reads.old }
-    ensures reads { reads_of reader.new ≡ reads_after (reads.old - reads.new) (reads_of reader.old) }
+    ensures reads { reads_of reader.new ≡
+        reads_after (reads.old - reads.new) (reads_of reader.old) }
     ensures faults { faults_of reader.new ≡ faults_after (is_device result) (faults_of reader.old) }
 {
     loop {
@@ -97,10 +102,13 @@ pub fn find_frame<R: Read, A: Allocator>(
     reader: &mut Counting<R>,
     reads: &mut u32,
 ) -> Result<(), ClientFault>
-    ensures searches { Searches id.value kind framer.old unread.old (R.remaining (inner_of reader.old)) framer.new unread.new (R.remaining (inner_of reader.new)) reads.new result }
+    ensures searches { Searches id.value kind framer.old unread.old
+        (R.remaining (inner_of reader.old)) framer.new unread.new
+        (R.remaining (inner_of reader.new)) reads.new result }
     ensures memory { IsErrOf result ClientFault.NoMemory → ⊥ }
     ensures few { reads.new ≤ reads.old }
-    ensures reads { reads_of reader.new ≡ reads_after (reads.old - reads.new) (reads_of reader.old) }
+    ensures reads { reads_of reader.new ≡
+        reads_after (reads.old - reads.new) (reads_of reader.old) }
     ensures faults { faults_of reader.new ≡ faults_after (is_device result) (faults_of reader.old) }
 {
     for _ in 0..MAX_FRAMES {

@@ -1,5 +1,6 @@
 //! A session: the commands of a stream and their replies.
-ghost use Rattle.std.specs.Prelude.{◌≡◌, ◌+◌, ◌<◌, ◌≤◌, ◌++◌, ℕ, List, [], ◌∷◌, Option, Some, None, false, length, take, IfOk, OnOk, OnErr, IsErrOf, IsOk};
+ghost use Rattle.std.specs.Prelude.{◌≡◌, ◌+◌, ◌<◌, ◌≤◌, ◌++◌, ℕ, List, [], ◌∷◌, Option, Some};
+ghost use Rattle.std.specs.Prelude.{None, false, length, take, IfOk, OnOk, OnErr, IsErrOf, IsOk};
 ghost use Rattle.pdc_frame.specs.Frame.{fields_of};
 ghost use Rattle.pdc_frame.specs.Stream.{HasTaken, IsBad};
 ghost use Rattle.pdc_frame.specs.declared.step.Step.TheVariants.{More};
@@ -8,11 +9,12 @@ ghost use Rattle.pdc_frame.specs.declared.header.TheConstants.{MAX_TEXT};
 ghost use Rattle.pdc_session.specs.Served.{IsFed, IsNew};
 ghost use Rattle.pdc_frame.specs.declared.limits.TheConstants.{MAX_SIZE};
 ghost use Rattle.pdc_memory.specs.Asking.{WasRefused};
-ghost use Rattle.pdc_session.specs.Session.{HasAnswered, HasRoom, LacksOne, Tells, needed_of, told_after, reply_of};
+ghost use Rattle.pdc_session.specs.Session.{HasAnswered, HasRoom, LacksOne, Tells, needed_of};
+ghost use Rattle.pdc_session.specs.Session.{told_after, reply_of};
 
 use crate::fault::SessionFault;
 use crate::serving::Serving;
-use crate::told::Told;
+use crate::subscription::Subscription;
 use pdc_cfg::write_config;
 use pdc_frame::{
     Buffer, Command, Frame, Framer, Kind, Step, StreamId, read_command, streams_split_in_one_way,
@@ -39,15 +41,20 @@ fn obey<B: Buffer>(
     id: StreamId,
     command: Option<Command>,
     serving: &Serving,
-    told: &mut Told,
+    told: &mut Subscription,
     out: &mut B,
 ) -> Result<(), AllocError>
     requires header { length serving.now.header.now ≤ MAX_TEXT }
-    ensures ok { OnOk result (B.content out.new ≡ B.content out.old ++ reply_of id.value serving.now command) }
+    ensures ok { OnOk result (B.content out.new ≡ B.content out.old ++
+        reply_of id.value serving.now command) }
     ensures told { told.new ≡ told_after told.old command }
-    ensures err { OnErr result ((B.content out.new ≡ B.content out.old) × (B.capacity out.new ≡ B.capacity out.old)) }
-    ensures room { length (B.content out.old) + length (reply_of id.value serving.now command) ≤ B.capacity out.old → IsOk result }
-    ensures in_place { length (B.content out.old) + length (reply_of id.value serving.now command) ≤ B.capacity out.old → B.capacity out.new ≡ B.capacity out.old }
+    ensures err { OnErr result ((B.content out.new ≡ B.content out.old)
+        × (B.capacity out.new ≡ B.capacity out.old)) }
+    ensures room { length (B.content out.old) +
+        length (reply_of id.value serving.now command) ≤ B.capacity out.old → IsOk result }
+    ensures in_place { length (B.content out.old) +
+        length (reply_of id.value serving.now command) ≤ B.capacity out.old →
+        B.capacity out.new ≡ B.capacity out.old }
     ensures refused { OnErr result (B.refused out.new (needed_of serving.now command)) }
 {
     match command {
@@ -69,7 +76,7 @@ fn obey<B: Buffer>(
 fn hear<B: Buffer, A: Allocator>(
     id: StreamId,
     framer: &mut Framer<A>,
-    told: &mut Told,
+    told: &mut Subscription,
     piece: &[u8],
     serving: &Serving,
     out: &mut B,
@@ -77,12 +84,18 @@ fn hear<B: Buffer, A: Allocator>(
     requires header { length serving.now.header.now ≤ MAX_TEXT }
     requires good { IsBad framer.old.step → ⊥ }
     ensures good { OnOk result (IsBad framer.new.step → ⊥) }
-    ensures ok { OnOk result (HasAnswered id.value serving.now piece.now framer.old told.old (B.content out.old) framer.new told.new (B.content out.new)) }
+    ensures ok { OnOk result (HasAnswered id.value serving.now piece.now framer.old told.old
+        (B.content out.old) framer.new told.new (B.content out.new)) }
     ensures bad { IsErrOf result SessionFault.BadStream → IsBad framer.new.step
-        × (n : ℕ) × (n ≤ length piece.now) × HasAnswered id.value serving.now (take n piece.now) framer.old told.old (B.content out.old) framer.new told.new (B.content out.new) }
+        × (n : ℕ) × (n ≤ length piece.now)
+        × HasAnswered id.value serving.now (take n piece.now) framer.old told.old
+        (B.content out.old) framer.new told.new (B.content out.new) }
     ensures memory { IsErrOf result SessionFault.NoMemory
-        → (n : ℕ) × (n ≤ length piece.now) × LacksOne id.value serving.now (take n piece.now) framer.old told.old (B.content out.old) framer.new told.new (B.content out.new) (B.capacity out.new) (B.refused out.new) }
-    ensures in_place { length (B.content out.new) ≤ B.capacity out.old → B.capacity out.new ≡ B.capacity out.old }
+        → (n : ℕ) × (n ≤ length piece.now)
+        × LacksOne id.value serving.now (take n piece.now) framer.old told.old (B.content out.old)
+        framer.new told.new (B.content out.new) (B.capacity out.new) (B.refused out.new) }
+    ensures in_place { length (B.content out.new) ≤ B.capacity out.old →
+        B.capacity out.new ≡ B.capacity out.old }
 {
     let mut at = 0;
     while at < piece.len() {
@@ -108,7 +121,7 @@ fn hear<B: Buffer, A: Allocator>(
 pub struct Session<A: Allocator = Global> {
     id: StreamId,
     framer: Framer<A>,
-    told: Told,
+    told: Subscription,
     ended: Option<SessionFault>,
 }
 
@@ -140,7 +153,7 @@ impl<A: Allocator> Session<A> {
         Ok(Session {
             id,
             framer: Framer::new(alloc)?,
-            told: Told {
+            told: Subscription {
                 on: false,
                 ignored: 0,
             },
@@ -178,23 +191,33 @@ impl<A: Allocator> Session<A> {
     ) -> Result<(), SessionFault>
         requires { length serving.now.header.now ≤ MAX_TEXT }
         ensures id { self.new.id ≡ self.old.id }
-        ensures ended { OnErr result ((fault : SessionFault) → IsErrOf result fault → self.new.ended ≡ Some fault) }
+        ensures ended { OnErr result ((fault : SessionFault) → IsErrOf result fault →
+            self.new.ended ≡ Some fault) }
         ensures goes_on { OnOk result ((self.old.ended ≡ None) × (self.new.ended ≡ None)) }
         ensures stays { (fault : SessionFault) → self.old.ended ≡ Some fault
             → IsErrOf result fault × (self.new ≡ self.old) × (out.new ≡ out.old) }
-        ensures ok { OnOk result (HasAnswered self.old.id serving.now piece.now self.old.held self.old.told (B.content out.old) self.new.held self.new.told (B.content out.new)) }
-        ensures bad { self.old.ended ≡ None → IsErrOf result SessionFault.BadStream → IsBad self.new.held.step
+        ensures ok { OnOk result (HasAnswered self.old.id serving.now piece.now self.old.held
+            self.old.told (B.content out.old) self.new.held self.new.told (B.content out.new)) }
+        ensures bad { self.old.ended ≡ None → IsErrOf result SessionFault.BadStream →
+            IsBad self.new.held.step
             × (n : ℕ) × (n ≤ length piece.now)
-            × HasAnswered self.old.id serving.now (take n piece.now) self.old.held self.old.told (B.content out.old) self.new.held self.new.told (B.content out.new) }
+            × HasAnswered self.old.id serving.now (take n piece.now) self.old.held self.old.told
+            (B.content out.old) self.new.held self.new.told (B.content out.new) }
         ensures memory { self.old.ended ≡ None → IsErrOf result SessionFault.NoMemory
             → (n : ℕ) × (n ≤ length piece.now)
-            × LacksOne self.old.id serving.now (take n piece.now) self.old.held self.old.told (B.content out.old) self.new.held self.new.told (B.content out.new) (B.capacity out.new) (B.refused out.new) }
+            × LacksOne self.old.id serving.now (take n piece.now) self.old.held self.old.told
+            (B.content out.old) self.new.held self.new.told (B.content out.new)
+            (B.capacity out.new) (B.refused out.new) }
         // Where there was room for the replies, no memory is wanted,
-        ensures room { self.old.ended ≡ None → HasRoom self.old.id serving.now piece.now self.old.held self.old.told (B.content out.old) (B.capacity out.old)
+        ensures room { self.old.ended ≡ None →
+            HasRoom self.old.id serving.now piece.now self.old.held self.old.told
+            (B.content out.old) (B.capacity out.old)
             → IsErrOf result SessionFault.NoMemory → ⊥ }
-        ensures in_place { length (B.content out.new) ≤ B.capacity out.old → B.capacity out.new ≡ B.capacity out.old }
+        ensures in_place { length (B.content out.new) ≤ B.capacity out.old →
+            B.capacity out.new ≡ B.capacity out.old }
         // So for every way to cut a stream into pieces it is answered alike.
-        ensures stream { IsFed serving.now piece.now self.old (B.content out.old) self.new (B.content out.new) }
+        ensures stream { IsFed serving.now piece.now self.old (B.content out.old) self.new
+            (B.content out.new) }
     {
         streams_split_in_one_way();
         if let Some(fault) = self.ended {

@@ -34,7 +34,9 @@ pub fn tell<W: Write>(
     command: Command,
     writer: &mut Counting<W>,
 ) -> Result<(), ClientFault>
-    ensures ok { OnOk result (Appends (W.contents (inner_of writer.old)) (W.contents (inner_of writer.new)) (spelling_of (command_fields id.value COMMAND_SOC command))) }
+    ensures ok { OnOk result (Appends (W.contents (inner_of writer.old))
+        (W.contents (inner_of writer.new)) (spelling_of
+        (command_fields id.value COMMAND_SOC command))) }
     ensures err { OnErr result (IsErrOf result ClientFault.Device) }
     ensures reads { reads_of writer.new ≡ reads_of writer.old }
     ensures faults { faults_of writer.new ≡ faults_after (is_err result) (faults_of writer.old) }

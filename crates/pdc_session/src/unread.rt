@@ -46,7 +46,11 @@ impl<A: Allocator> Model for Unread<A> {
 
     ghost view = { λ u. take (u.end - u.begin) (drop u.begin u.piece.items) };
 
-    ghost invariant = { λ u. record { begin : u.begin ≤ u.end; end : u.end ≤ length u.piece.items; room : 0 < length u.piece.items } };
+    ghost invariant = { λ u. record {
+      begin : u.begin ≤ u.end;
+      end : u.end ≤ length u.piece.items;
+      room : 0 < length u.piece.items;
+    } };
 }
 
 impl<A: Allocator> Unread<A> {
@@ -89,11 +93,15 @@ impl<A: Allocator> Unread<A> {
     pub fn fill<R: Read>(&mut self, reader: &mut Counting<R>) -> io::Result<usize>
         requires { self.old ≡ [] }
         ensures len { IfOk result (λ count. count ≡ length self.new) }
-        ensures bytes { IfOk result (λ count. Consumes (R.remaining (inner_of reader.old)) (R.remaining (inner_of reader.new)) self.new) }
-        ensures end { IfOk result (λ count. count ≡ 0 → IsAtEnd (R.remaining (inner_of reader.new))) }
-        ensures err { OnErr result ((self.new ≡ []) × Keeps (R.remaining (inner_of reader.old)) (R.remaining (inner_of reader.new))) }
+        ensures bytes { IfOk result (λ count. Consumes (R.remaining (inner_of reader.old))
+            (R.remaining (inner_of reader.new)) self.new) }
+        ensures end { IfOk result (λ count. count ≡ 0 →
+            IsAtEnd (R.remaining (inner_of reader.new))) }
+        ensures err { OnErr result ((self.new ≡ [])
+            × Keeps (R.remaining (inner_of reader.old)) (R.remaining (inner_of reader.new))) }
         ensures reads { reads_of reader.new ≡ reads_after 1 (reads_of reader.old) }
-        ensures faults { faults_of reader.new ≡ faults_after (is_fault result) (faults_of reader.old) }
+        ensures faults { faults_of reader.new ≡
+            faults_after (is_fault result) (faults_of reader.old) }
     {
         self.begin = 0;
         self.end = 0;

@@ -1,4 +1,5 @@
 pub mod Common
+pub mod Document
 pub mod Doubled
 pub mod Entries
 pub mod Inputs

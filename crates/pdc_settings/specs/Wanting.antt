@@ -1,7 +1,7 @@
 -- Who answered want of memory, where settings are not read for it.
 use Rattle.std.specs.Prelude.{◌⊎◌, ℕ, List}
 use Rattle.toml.specs.Errors.{IsBlank}
-use Rattle.pdc_keys.specs.{pdc_memory.Asking.{SomeWasRefused}, Wanting.{IsWantOfKeys}}
+use Rattle.pdc_keys.specs.pdc_memory.Asking.{SomeWasRefused}
 
 -- In this call `toml` answered want of memory, asked for the document of this text. No proof but that of the function that asks it can say
 -- so.
@@ -15,7 +15,3 @@ IsTomlWant text = TomlWanted text × (IsBlank text → ⊥)
 -- why a text is not read for want of memory: `toml` answered so, or a request was refused
 abbrev pub IsWant : (text : List ℕ) → Type 0
 IsWant text = IsTomlWant text ⊎ SomeWasRefused
-
--- the same of the keys that nothing reads
-abbrev pub IsWantOfUnknown : (text : List ℕ) → Type 0
-IsWantOfUnknown text = IsTomlWant text ⊎ IsWantOfKeys

@@ -1,7 +1,10 @@
 //! What a node and the merger are told alike.
 ghost use Rattle.std.specs.Prelude.{◌≡◌, ◌≤◌, IfOk, None, OnErr, OnOk, Some, false, true};
 ghost use Rattle.toml.specs.View.{table_view};
-ghost use Rattle.pdc_settings.specs.Common.{IsOutput, IsService, IsTiming, has_common, has_output, has_service, has_timing, nominal_in, nominal_of, rate_in, tick_in, tick_ms_in, tick_ms_of, tick_named, wait_kind_in, wait_kind_named};
+ghost use Rattle.pdc_settings.specs.Common.{IsOutput, IsService, IsTiming, has_common};
+ghost use Rattle.pdc_settings.specs.Common.{has_output, has_service, has_timing, nominal_in};
+ghost use Rattle.pdc_settings.specs.Common.{nominal_of, rate_in, tick_in, tick_ms_in, tick_ms_of};
+ghost use Rattle.pdc_settings.specs.Common.{tick_named, wait_kind_in, wait_kind_named};
 ghost use Rattle.pdc_settings.specs.Settings.{IsCommon};
 
 use crate::service::{Service, TickWhen};

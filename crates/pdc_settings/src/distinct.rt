@@ -25,7 +25,8 @@ pub(crate) fn ids_differ(ids: &[u16]) -> bool
 
 /// Whether one of the streams has this id.
 pub(crate) fn has_stream(pmus: &[Pmu], id: u16) -> bool
-    ensures { result ≡ list_any (λ other. other == id) (map (λ (pmu : PmuData). pmu.stream.value) pmus.now) }
+    ensures { result ≡ list_any (λ other. other == id)
+        (map (λ (pmu : PmuData). pmu.stream.value) pmus.now) }
 {
     match pmus.split_first() {
         Some((pmu, others)) => pmu.stream.value == id || has_stream(others, id),
@@ -45,7 +46,8 @@ pub(crate) fn streams_differ(pmus: &[Pmu]) -> bool
 
 /// Whether one of the sources has this id.
 pub(crate) fn has_source(pmus: &[Pmu], id: u16) -> bool
-    ensures { result ≡ list_any (λ other. other == id) (map (λ (pmu : PmuData). pmu.source) pmus.now) }
+    ensures { result ≡ list_any (λ other. other == id)
+        (map (λ (pmu : PmuData). pmu.source) pmus.now) }
 {
     match pmus.split_first() {
         Some((pmu, others)) => pmu.source == id || has_source(others, id),

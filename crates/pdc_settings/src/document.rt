@@ -1,32 +1,21 @@
-//! A text as a TOML document.
-ghost use Rattle.std.specs.Prelude.{◌≡◌, IfOk, IfErr, IsErrOf, IsNone, IsSomeAnd, Some, None, map, option_map};
-ghost use Rattle.toml.specs.Parse.{parse_document};
+//! A text of settings as a TOML document.
+ghost use Rattle.std.specs.Prelude.{◌≡◌, IfOk, IfErr, IsErrOf, OnErr};
 ghost use Rattle.toml.specs.View.{table_view};
-ghost use Rattle.pdc_keys.specs.Unknown.{unknown_fields, unknown_in};
+ghost use Rattle.pdc_keys.specs.Wanting.{IsWantOfKeys};
+ghost use Rattle.pdc_settings.specs.Document.{AreUnknown, IsDocumentOf, members_of};
 ghost use Rattle.pdc_settings.specs.Kind.{IsNoDocument, is_merger};
-ghost use Rattle.pdc_settings.specs.Wanting.{IsTomlWant, IsWantOfUnknown};
+ghost use Rattle.pdc_settings.specs.Wanting.{IsTomlWant};
 
 use crate::fault::SettingsFault;
 use pdc_keys::{UnknownKey, unknown_keys_in, value_at};
-use std::alloc::Global;
+use std::alloc::{AllocError, Global};
 use toml::Table;
 
-/// The document that a text is.
-#[tactic(auto, unfolding(crate::specs::Wanting::TomlWanted))]
-pub(crate) fn document(alloc: Global, text: &str) -> Result<Table, SettingsFault>
-    ensures found { IfOk result (λ table. parse_document text.now ≡ Some (table_view table)) }
-    ensures fault { IfErr result (IsNoDocument text.now) }
-    ensures wanted { IsErrOf result SettingsFault.NoMemory → IsTomlWant text.now }
-{
-    match toml::table_from_str(alloc, text) {
-        Ok(table) => Ok(table),
-        Err(error) => {
-            if error.is_memory() {
-                return Err(SettingsFault::NoMemory);
-            }
-            Err(SettingsFault::Toml)
-        }
-    }
+/// A text of settings as a TOML document. A text is parsed once, and all that it says is read out of this.
+#[derive(Drop)]
+pub struct Document {
+    /// Its keys and tables.
+    pub table: Table,
 }
 
 /// Whether the settings are a merger's.
@@ -39,34 +28,46 @@ pub(crate) fn is_merger(table: &Table) -> bool
     }
 }
 
-/// Whether a text is the settings of the merger, which it is by the key `node`. Any other document is a node's.
-///
-/// # Errors
-///
-/// `Toml` where the text is no TOML; `NoMemory` where `toml` answered that memory was wanted.
-pub fn is_of_merger(alloc: Global, text: &str) -> Result<bool, SettingsFault>
-    ensures value { IfOk result (λ answer. option_map is_merger (parse_document text.now) ≡ Some answer) }
-    ensures fault { IfErr result (IsNoDocument text.now) }
-    ensures wanted { IsErrOf result SettingsFault.NoMemory → IsTomlWant text.now }
-{
-    let table = document(alloc, text)?;
-    Ok(is_merger(&table))
-}
+impl Document {
+    /// The document that a text is.
+    ///
+    /// # Errors
+    ///
+    /// `Toml` where the text is no TOML; `NoMemory` where `toml` answered that memory was wanted.
+    #[tactic(auto, unfolding(crate::specs::Wanting::TomlWanted))]
+    pub fn parse(alloc: Global, text: &str) -> Result<Document, SettingsFault>
+        ensures found { IfOk result (IsDocumentOf text.now) }
+        ensures fault { IfErr result (IsNoDocument text.now) }
+        ensures wanted { IsErrOf result SettingsFault.NoMemory → IsTomlWant text.now }
+    {
+        match toml::table_from_str(alloc, text) {
+            Ok(table) => Ok(Document { table }),
+            Err(error) => {
+                if error.is_memory() {
+                    return Err(SettingsFault::NoMemory);
+                }
+                Err(SettingsFault::Toml)
+            }
+        }
+    }
 
-/// The keys of a text that nothing reads: those at its top, then those of the tables of nodes, then of PMUs; in each in the order of
-/// their letters.
-///
-/// # Errors
-///
-/// `Toml` where the text is no TOML; `NoMemory` where `toml` answered that memory was wanted, a request was refused, or `strsim` answered so.
-pub fn unknown_keys(alloc: Global, text: &str) -> Result<Vec<UnknownKey>, SettingsFault>
-    ensures value { IfOk result (λ found. IsSomeAnd (parse_document text.now) (λ members. map unknown_fields found.items ≡ unknown_in members)) }
-    ensures fault { IfErr result (IsNoDocument text.now) }
-    ensures wanted { IsErrOf result SettingsFault.NoMemory → IsWantOfUnknown text.now }
-{
-    let table = document(alloc, text)?;
-    match unknown_keys_in(alloc, &table) {
-        Ok(found) => Ok(found),
-        Err(_) => Err(SettingsFault::NoMemory),
+    /// Whether it is the settings of the merger, which it is by the key `node`. Any other document is a node's.
+    pub fn is_merger(&self) -> bool
+        ensures { result ≡ is_merger (members_of self.now) }
+    {
+        is_merger(&self.table)
+    }
+
+    /// Its keys that nothing reads: those at its top, then those of the tables of nodes, then of PMUs; in each in the order of their
+    /// letters.
+    ///
+    /// # Errors
+    ///
+    /// A request for memory was refused, or `strsim` answered so.
+    pub fn unknown_keys(&self, alloc: Global) -> Result<Vec<UnknownKey>, AllocError>
+        ensures found { IfOk result (λ found. AreUnknown (members_of self.now) found.items) }
+        ensures wanted { OnErr result IsWantOfKeys }
+    {
+        unknown_keys_in(alloc, &self.table)
     }
 }

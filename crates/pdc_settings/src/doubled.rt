@@ -78,7 +78,8 @@ fn pair_of(one: Numbered, other: Numbered) -> Doubled
 /// The one with the first of the others that has the same number.
 fn same_as(one: Numbered, others: &[Numbered]) -> Option<Doubled>
     ensures pair { result ≡ same_as one others.now }
-    ensures some { is_some result ≡ list_any (λ number. number == one.number) (map (λ (n : NumberedData). n.number) others.now) }
+    ensures some { is_some result ≡
+        list_any (λ number. number == one.number) (map (λ (n : NumberedData). n.number) others.now) }
 {
     match others.split_first() {
         Some((other, more)) => {
@@ -95,7 +96,8 @@ fn same_as(one: Numbered, others: &[Numbered]) -> Option<Doubled>
 /// The first two that have the same number: there are such exactly where not all are distinct.
 pub(crate) fn doubled_in(numbers: &[Numbered]) -> Option<Doubled>
     ensures pair { result ≡ doubled_in numbers.now }
-    ensures some { is_some result ≡ not (are_distinct (map (λ (n : NumberedData). n.number) numbers.now)) }
+    ensures some { is_some result ≡
+        not (are_distinct (map (λ (n : NumberedData). n.number) numbers.now)) }
 {
     match numbers.split_first() {
         Some((one, others)) => match same_as(*one, others) {

@@ -3,7 +3,8 @@ ghost use Rattle.std.specs.Prelude.{◌≡◌, ◌≤◌, IfOk, IfSome, None, On
 ghost use Rattle.toml.specs.Data.{get_member};
 ghost use Rattle.toml.specs.View.{table_view, view};
 ghost use Rattle.pdc_frame.specs.declared.limits.TheConstants.{MAX_ID};
-ghost use Rattle.pdc_settings.specs.Entries.{node_fields, node_in, pmu_fields, pmu_in, port_in, port_of, source_of};
+ghost use Rattle.pdc_settings.specs.Entries.{node_fields, node_in, pmu_fields, pmu_in, port_in};
+ghost use Rattle.pdc_settings.specs.Entries.{port_of, source_of};
 
 use pdc_frame::{MAX_ID, StreamId};
 use pdc_keys::{MAX_PORT, MAX_TIME_BASE, Wanted, number, number_in, value_at};
@@ -54,7 +55,8 @@ fn source(table: &Table, stream: u64) -> Option<u64>
 
 /// What a PMU's table says of it.
 pub(crate) fn read_pmu(table: &Table, rate: u16) -> Result<Pmu, Wanted>
-    ensures value { IfOk result (λ pmu. pmu_in rate (table_view table.now) ≡ Some (pmu_fields pmu)) }
+    ensures value { IfOk result (λ pmu. pmu_in rate (table_view table.now) ≡
+        Some (pmu_fields pmu)) }
     ensures none { OnErr result (pmu_in rate (table_view table.now) ≡ None) }
     ensures base { IfOk result (λ pmu. rate ≤ pmu.time_base) }
 {
@@ -81,7 +83,8 @@ pub(crate) fn read_pmu(table: &Table, rate: u16) -> Result<Pmu, Wanted>
 
 /// What a node's table says of it.
 pub(crate) fn read_node(table: &Table, rate: u16) -> Result<MergedNode, Wanted>
-    ensures value { IfOk result (λ node. node_in rate (table_view table.now) ≡ Some (node_fields node)) }
+    ensures value { IfOk result (λ node. node_in rate (table_view table.now) ≡
+        Some (node_fields node)) }
     ensures none { OnErr result (node_in rate (table_view table.now) ≡ None) }
     ensures base { IfOk result (λ node. rate ≤ node.time_base) }
 {

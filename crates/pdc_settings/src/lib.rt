@@ -26,7 +26,7 @@ mod read_network;
 mod read_node;
 mod service;
 
-pub use document::{is_of_merger, unknown_keys};
+pub use document::Document;
 pub use doubled::{Doubled, NumberKey};
 pub use fault::SettingsFault;
 pub use input::Input;

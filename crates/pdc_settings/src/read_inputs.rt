@@ -1,8 +1,11 @@
 //! Reading how the frames of each stream come.
-ghost use Rattle.std.specs.Prelude.{◌≡◌, IfOk, IfErr, IsErrOf, None, OnErr, Option, Some, option_map, string_bytes};
+ghost use Rattle.std.specs.Prelude.{◌≡◌, IfOk, IfErr, IsErrOf, None, OnErr, Option, Some};
+ghost use Rattle.std.specs.Prelude.{option_map, string_bytes};
 ghost use Rattle.std.specs.declared.net.ip_addr.IpAddr.{IpAddr};
 ghost use Rattle.toml.specs.View.{items_view, table_view, view};
-ghost use Rattle.pdc_settings.specs.Inputs.{EachSays, HasFrom, IsInput, IsNoInput, IsOneOf, at_key, commands_of, most_count_of, streams_in, tcp_of};
+ghost use Rattle.pdc_settings.specs.Inputs.{EachSays, HasFrom, IsInput, IsNoInput, IsOneOf};
+ghost use Rattle.pdc_settings.specs.Inputs.{at_key, commands_of, most_count_of, streams_in};
+ghost use Rattle.pdc_settings.specs.Inputs.{tcp_of};
 ghost use Rattle.pdc_settings.specs.Network.{fault_at};
 ghost use Rattle.pdc_keys.specs.pdc_memory.Asking.{SomeWasRefused};
 ghost use Rattle.pdc_keys.specs.Places.{IsUnread, as_place};
@@ -40,8 +43,10 @@ fn at_key<'t>(value: &'t Value, key: &str) -> Option<&'t Value>
 
 /// The place that a value names, of a key that may be left out.
 fn some_place(alloc: Global, value: &Value) -> Result<Option<String>, Unread>
-    ensures value { IfOk result (λ text. option_map (λ t. Some t) (as_place (view value.now)) ≡ Some (option_map string_bytes text)) }
-    ensures fault { IfErr result (IsUnread (option_map (λ t. Some t) (as_place (view value.now)) ≡ None)) }
+    ensures value { IfOk result (λ text. option_map (λ t. Some t) (as_place (view value.now)) ≡
+        Some (option_map string_bytes text)) }
+    ensures fault { IfErr result (IsUnread (option_map (λ t. Some t) (as_place (view value.now)) ≡
+        None)) }
     ensures refused { IsErrOf result Unread.NoMemory → SomeWasRefused }
 {
     match place_of(alloc, value) {
@@ -52,7 +57,8 @@ fn some_place(alloc: Global, value: &Value) -> Result<Option<String>, Unread>
 
 /// Where the stream of a table is asked for over TCP.
 fn tcp_place(alloc: Global, value: &Value) -> Result<Option<String>, Unread>
-    ensures value { IfOk result (λ text. tcp_of (view value.now) ≡ Some (option_map string_bytes text)) }
+    ensures value { IfOk result (λ text. tcp_of (view value.now) ≡
+        Some (option_map string_bytes text)) }
     ensures fault { IfErr result (IsUnread (tcp_of (view value.now) ≡ None)) }
     ensures refused { IsErrOf result Unread.NoMemory → SomeWasRefused }
 {
@@ -64,7 +70,8 @@ fn tcp_place(alloc: Global, value: &Value) -> Result<Option<String>, Unread>
 
 /// Where it is asked for by UDP, which is beside the port.
 fn commands_place(alloc: Global, value: &Value) -> Result<Option<String>, Unread>
-    ensures value { IfOk result (λ text. commands_of (view value.now) ≡ Some (option_map string_bytes text)) }
+    ensures value { IfOk result (λ text. commands_of (view value.now) ≡
+        Some (option_map string_bytes text)) }
     ensures fault { IfErr result (IsUnread (commands_of (view value.now) ≡ None)) }
     ensures refused { IsErrOf result Unread.NoMemory → SomeWasRefused }
 {
@@ -106,7 +113,8 @@ pub(crate) fn fault_of(unread: Unread, wanted: Wanted) -> SettingsFault
 
 /// The key `tcp` of a table.
 fn tcp_of(alloc: Global, value: &Value) -> Result<Option<String>, SettingsFault>
-    ensures value { IfOk result (λ text. tcp_of (view value.now) ≡ Some (option_map string_bytes text)) }
+    ensures value { IfOk result (λ text. tcp_of (view value.now) ≡
+        Some (option_map string_bytes text)) }
     ensures fault { IfErr result (λ fault. IsNoInput fault (view value.now)) }
     ensures refused { IsErrOf result SettingsFault.NoMemory → SomeWasRefused }
 {
@@ -118,7 +126,8 @@ fn tcp_of(alloc: Global, value: &Value) -> Result<Option<String>, SettingsFault>
 
 /// The key `commands` of a table.
 fn commands_of(alloc: Global, value: &Value) -> Result<Option<String>, SettingsFault>
-    ensures value { IfOk result (λ text. commands_of (view value.now) ≡ Some (option_map string_bytes text)) }
+    ensures value { IfOk result (λ text. commands_of (view value.now) ≡
+        Some (option_map string_bytes text)) }
     ensures fault { IfErr result (λ fault. IsNoInput fault (view value.now)) }
     ensures refused { IsErrOf result SettingsFault.NoMemory → SomeWasRefused }
 {

@@ -1,19 +1,25 @@
 //! Reading the settings of the merger.
-ghost use Rattle.std.specs.Prelude.{◌≡◌, ◌<◌, ◌≤◌, ◌∷◌, ◌&&◌, IfOk, IfErr, IfSome, IsErrOf, IsTrue, None, is_some, OnErr, OnOk, Some, false, length, nat_le, nat_lt, true};
+ghost use Rattle.std.specs.Prelude.{◌≡◌, ◌<◌, ◌≤◌, ◌∷◌, ◌&&◌, IfOk, IfErr, IfSome, IsErrOf};
+ghost use Rattle.std.specs.Prelude.{IsTrue, None, is_some, OnErr, OnOk, Some, false, length};
+ghost use Rattle.std.specs.Prelude.{nat_le, nat_lt, true};
 ghost use Rattle.std.specs.List.{list_all};
 ghost use Rattle.toml.specs.View.{items_view, table_view, view};
 ghost use Rattle.pdc_frame.specs.declared.limits.TheConstants.{MAX_ID};
 ghost use Rattle.pdc_life.specs.Distinct.{are_distinct};
 ghost use Rattle.pdc_life.specs.pdc_row.declared.limits.TheConstants.{MAX_PMUS};
-ghost use Rattle.pdc_settings.specs.Entries.{each_of, first_node_in, first_port_in, node_fields, node_of, node_tables_in, port_of, second_node_in, second_port_in, source_at, sources_in, two_of};
+ghost use Rattle.pdc_settings.specs.Entries.{each_of, first_node_in, first_port_in, node_fields};
+ghost use Rattle.pdc_settings.specs.Entries.{node_of, node_tables_in, port_of, second_node_in};
+ghost use Rattle.pdc_settings.specs.Entries.{second_port_in, source_at, sources_in, two_of};
+ghost use Rattle.pdc_settings.specs.Document.{members_of};
 ghost use Rattle.pdc_settings.specs.Kind.{is_merger};
 ghost use Rattle.pdc_settings.specs.Said.{SaysMerger};
-ghost use Rattle.pdc_settings.specs.Settings.{IsCommon, IsFaultOf, IsMergerFault, IsMergerSettings, are_merger_ids, has_merger_keys};
+ghost use Rattle.pdc_settings.specs.Settings.{IsCommon, IsFaultOf, IsMergerFault};
+ghost use Rattle.pdc_settings.specs.Settings.{IsMergerSettings, are_merger_ids, has_merger_keys};
 ghost use Rattle.pdc_settings.specs.Wanting.{IsTomlWant};
 
 use crate::common::{Common, read_common};
 use crate::distinct::{has_id, ids_differ};
-use crate::document::{document, is_merger};
+use crate::document::{Document, is_merger};
 use crate::entries::{port_of, read_node};
 use crate::fault::SettingsFault;
 use crate::merger::MergerSettings;
@@ -47,8 +53,10 @@ fn read_node_of(value: &Value, rate: u16) -> Result<MergedNode, Wanted>
 
 /// Reads a table at the key `node`, with its port.
 fn read_taken(value: &Value, rate: u16) -> Result<Taken, Wanted>
-    ensures none { OnErr result ((is_some (node_of rate (view value.now)) && is_some (port_of (view value.now))) ≡ false) }
-    ensures node { IfOk result (λ taken. node_of rate (view value.now) ≡ Some (node_fields taken.node)) }
+    ensures none { OnErr result ((is_some (node_of rate (view value.now)) && is_some
+        (port_of (view value.now))) ≡ false) }
+    ensures node { IfOk result (λ taken. node_of rate (view value.now) ≡
+        Some (node_fields taken.node)) }
     ensures port { IfOk result (λ taken. port_of (view value.now) ≡ Some taken.port) }
     ensures base { IfOk result (λ taken. rate ≤ taken.node.time_base) }
 {
@@ -59,7 +67,8 @@ fn read_taken(value: &Value, rate: u16) -> Result<Taken, Wanted>
 
 /// The two tables at the key `node`.
 fn node_tables(table: &Table) -> Result<&[Value], Wanted>
-    ensures value { IfOk result (λ values. node_tables_in (table_view table.now) ≡ two_of (items_view values.now)) }
+    ensures value { IfOk result (λ values. node_tables_in (table_view table.now) ≡
+        two_of (items_view values.now)) }
     ensures none { OnErr result (node_tables_in (table_view table.now) ≡ None) }
     ensures two { IfOk result (λ values. length values.now ≡ 2) }
 {
@@ -74,12 +83,18 @@ fn node_tables(table: &Table) -> Result<&[Value], Wanted>
 
 /// Reads the two tables at the key `node`: node A and then node B.
 fn read_nodes(table: &Table, rate: u16) -> Result<(Taken, Taken), Wanted>
-    ensures none { OnErr result (((is_some (first_node_in rate (table_view table.now)) && is_some (first_port_in (table_view table.now)))
-        && (is_some (second_node_in rate (table_view table.now)) && is_some (second_port_in (table_view table.now)))) ≡ false) }
-    ensures first_node { IfOk result (λ nodes. first_node_in rate (table_view table.now) ≡ Some (node_fields nodes.0.node)) }
-    ensures second_node { IfOk result (λ nodes. second_node_in rate (table_view table.now) ≡ Some (node_fields nodes.1.node)) }
-    ensures first_port { IfOk result (λ nodes. first_port_in (table_view table.now) ≡ Some nodes.0.port) }
-    ensures second_port { IfOk result (λ nodes. second_port_in (table_view table.now) ≡ Some nodes.1.port) }
+    ensures none { OnErr result (((is_some (first_node_in rate (table_view table.now)) && is_some
+        (first_port_in (table_view table.now)))
+        && (is_some (second_node_in rate (table_view table.now)) && is_some
+        (second_port_in (table_view table.now)))) ≡ false) }
+    ensures first_node { IfOk result (λ nodes. first_node_in rate (table_view table.now) ≡
+        Some (node_fields nodes.0.node)) }
+    ensures second_node { IfOk result (λ nodes. second_node_in rate (table_view table.now) ≡
+        Some (node_fields nodes.1.node)) }
+    ensures first_port { IfOk result (λ nodes. first_port_in (table_view table.now) ≡
+        Some nodes.0.port) }
+    ensures second_port { IfOk result (λ nodes. second_port_in (table_view table.now) ≡
+        Some nodes.1.port) }
     ensures first { IfOk result (λ nodes. rate ≤ nodes.0.node.time_base) }
     ensures second { IfOk result (λ nodes. rate ≤ nodes.1.node.time_base) }
 {
@@ -106,9 +121,11 @@ pub(crate) fn read_source(value: &Value) -> Result<u16, Wanted>
 /// Reads the sources of the PMUs, in their order.
 fn read_sources(values: &[Value]) -> Result<ArrayVec<u16, MAX_PMUS>, Wanted>
     requires few { length values.now ≤ MAX_PMUS }
-    ensures value { IfOk result (λ sources. each_of source_at (items_view values.now) ≡ Some sources.items) }
+    ensures value { IfOk result (λ sources. each_of source_at (items_view values.now) ≡
+        Some sources.items) }
     ensures none { OnErr result (each_of source_at (items_view values.now) ≡ None) }
-    ensures ids { IfOk result (λ sources. IsTrue (list_all (λ id. nat_lt 0 id && nat_le id MAX_ID) sources.items)) }
+    ensures ids { IfOk result (λ sources. IsTrue (list_all (λ id. nat_lt 0 id && nat_le id MAX_ID)
+        sources.items)) }
     ensures len { IfOk result (λ sources. length sources.items ≡ length values.now) }
 {
     let mut sources = ArrayVec::new();
@@ -126,15 +143,21 @@ pub(crate) fn read_parts(
     ensures lacks { OnErr result (has_merger_keys (table_view table.now) ≡ false) }
     ensures kind { IfOk result (λ parts. is_merger (table_view table.now) ≡ true) }
     ensures common { IfOk result (λ parts. IsCommon (table_view table.now) parts.0) }
-    ensures first_node { IfOk result (λ parts. first_node_in parts.0.output.rate (table_view table.now) ≡ Some (node_fields parts.1.node)) }
-    ensures second_node { IfOk result (λ parts. second_node_in parts.0.output.rate (table_view table.now) ≡ Some (node_fields parts.2.node)) }
-    ensures first_port { IfOk result (λ parts. first_port_in (table_view table.now) ≡ Some parts.1.port) }
-    ensures second_port { IfOk result (λ parts. second_port_in (table_view table.now) ≡ Some parts.2.port) }
-    ensures sources { IfOk result (λ parts. sources_in (table_view table.now) ≡ Some parts.3.items) }
+    ensures first_node { IfOk result (λ parts. first_node_in parts.0.output.rate
+        (table_view table.now) ≡ Some (node_fields parts.1.node)) }
+    ensures second_node { IfOk result (λ parts. second_node_in parts.0.output.rate
+        (table_view table.now) ≡ Some (node_fields parts.2.node)) }
+    ensures first_port { IfOk result (λ parts. first_port_in (table_view table.now) ≡
+        Some parts.1.port) }
+    ensures second_port { IfOk result (λ parts. second_port_in (table_view table.now) ≡
+        Some parts.2.port) }
+    ensures sources { IfOk result (λ parts. sources_in (table_view table.now) ≡
+        Some parts.3.items) }
     ensures first { IfOk result (λ parts. parts.0.output.rate ≤ parts.1.node.time_base) }
     ensures second { IfOk result (λ parts. parts.0.output.rate ≤ parts.2.node.time_base) }
     ensures some { IfOk result (λ parts. 1 ≤ length parts.3.items) }
-    ensures ids { IfOk result (λ parts. IsTrue (list_all (λ id. nat_lt 0 id && nat_le id MAX_ID) parts.3.items)) }
+    ensures ids { IfOk result (λ parts. IsTrue (list_all (λ id. nat_lt 0 id && nat_le id MAX_ID)
+        parts.3.items)) }
 {
     if !is_merger(table) {
         return Err(Wanted::Nodes);
@@ -172,7 +195,8 @@ fn life_of(
     requires ids { IsTrue (list_all (λ id. nat_lt 0 id && nat_le id MAX_ID) sources.items) }
     requires first_base { output.rate ≤ first.time_base }
     requires second_base { output.rate ≤ second.time_base }
-    ensures doubled { result ≡ None → are_merger_ids output.id.value first.id.value second.id.value sources.items ≡ false }
+    ensures doubled { result ≡ None →
+        are_merger_ids output.id.value first.id.value second.id.value sources.items ≡ false }
     ensures output { IfSome result (λ life. life.output ≡ output) }
     ensures timing { IfSome result (λ life. life.timing ≡ timing) }
     ensures first { IfSome result (λ life. life.first ≡ first) }
@@ -228,7 +252,21 @@ impl MergerSettings {
         ensures fault { IfErr result (IsFaultOf IsMergerFault text.now) }
         ensures wanted { IsErrOf result SettingsFault.NoMemory → IsTomlWant text.now }
     {
-        let table = document(alloc, text)?;
-        read_settings(&table)
+        let document = Document::parse(alloc, text)?;
+        MergerSettings::from_document(&document)
+    }
+
+    /// Reads the settings of the merger out of a document.
+    ///
+    /// # Errors
+    ///
+    /// `Range`, with the key, where one is missing, of another type or out of its range; else `DoubledId` where two ids are the same that
+    /// must differ.
+    pub fn from_document(document: &Document) -> Result<MergerSettings, SettingsFault>
+        ensures value { IfOk result (IsMergerSettings (members_of document.now)) }
+        ensures fault { IfErr result (IsMergerFault (members_of document.now)) }
+        ensures memory { IsErrOf result SettingsFault.NoMemory → ⊥ }
+    {
+        read_settings(&document.table)
     }
 }

@@ -1,18 +1,23 @@
 //! Reading where a concentrator is on the network.
-ghost use Rattle.std.specs.Prelude.{◌≡◌, ◌≤◌, IfOk, IfErr, IfSome, IsErrOf, None, OnErr, Some, codes, map, nat_le, option_and_then, option_map, length, string_bytes};
+ghost use Rattle.std.specs.Prelude.{◌≡◌, ◌≤◌, IfOk, IfErr, IfSome, IsErrOf, None, OnErr, Some};
+ghost use Rattle.std.specs.Prelude.{codes, map, nat_le, option_and_then, option_map, length};
+ghost use Rattle.std.specs.Prelude.{string_bytes};
 ghost use Rattle.std.specs.declared.net.ip_addr.IpAddr.{IpAddr};
 ghost use Rattle.toml.specs.Data.{as_array, get_member};
 ghost use Rattle.toml.specs.View.{items_view, table_view, view};
+ghost use Rattle.pdc_settings.specs.Document.{members_of};
 ghost use Rattle.pdc_settings.specs.Entries.{each_of};
 ghost use Rattle.pdc_settings.specs.Inputs.{EachSays, IsInput, streams_in};
-ghost use Rattle.pdc_settings.specs.Network.{IsAddress, IsKeyFault, IsNetwork, IsNetworkFault, few_outputs, fault_of, metrics_port_in, outputs_of, receive_buffer_in, sessions_in, ttl_in};
+ghost use Rattle.pdc_settings.specs.Network.{IsAddress, IsKeyFault, IsNetwork, IsNetworkFault};
+ghost use Rattle.pdc_settings.specs.Network.{few_outputs, fault_of, metrics_port_in, outputs_of};
+ghost use Rattle.pdc_settings.specs.Network.{receive_buffer_in, sessions_in, ttl_in};
 ghost use Rattle.pdc_keys.specs.pdc_memory.Asking.{SomeWasRefused};
 ghost use Rattle.pdc_keys.specs.Places.{IsUnread, as_place};
 ghost use Rattle.pdc_settings.specs.Said.{SaysNetwork};
 ghost use Rattle.pdc_settings.specs.Settings.{IsFaultOf};
 ghost use Rattle.pdc_settings.specs.Wanting.{IsWant};
 
-use crate::document::document;
+use crate::document::Document;
 use crate::fault::SettingsFault;
 use crate::input::Input;
 use crate::network::{
@@ -29,7 +34,8 @@ use toml::{Table, Value};
 /// The address at the key `address`.
 fn address(table: &Table) -> Result<IpAddr, Wanted>
     ensures value { IfOk result (IsAddress (get_member (codes "address") (table_view table.now))) }
-    ensures none { OnErr result ((ip : IpAddr) → IsAddress (get_member (codes "address") (table_view table.now)) ip → ⊥) }
+    ensures none { OnErr result ((ip : IpAddr) →
+        IsAddress (get_member (codes "address") (table_view table.now)) ip → ⊥) }
     ensures wanted { IfErr result (λ w. w ≡ Wanted.Address) }
 {
     match value_at(table, "address") {
@@ -40,7 +46,8 @@ fn address(table: &Table) -> Result<IpAddr, Wanted>
 
 /// The places that values name, in their order.
 fn texts_of(alloc: Global, values: &[Value]) -> Result<Vec<String>, Unread>
-    ensures value { IfOk result (λ texts. each_of as_place (items_view values.now) ≡ Some (map string_bytes texts.items)) }
+    ensures value { IfOk result (λ texts. each_of as_place (items_view values.now) ≡
+        Some (map string_bytes texts.items)) }
     ensures fault { IfErr result (IsUnread (each_of as_place (items_view values.now) ≡ None)) }
     ensures refused { IsErrOf result Unread.NoMemory → SomeWasRefused }
 {
@@ -77,8 +84,10 @@ fn values_of(value: &Value) -> Option<&[Value]>
 
 /// The places of a list, at most 8.
 fn few_texts(alloc: Global, value: &Value) -> Result<Vec<String>, Unread>
-    ensures value { IfOk result (λ texts. option_and_then few_outputs (as_array (view value.now)) ≡ Some (map string_bytes texts.items)) }
-    ensures fault { IfErr result (IsUnread (option_and_then few_outputs (as_array (view value.now)) ≡ None)) }
+    ensures value { IfOk result (λ texts. option_and_then few_outputs (as_array (view value.now)) ≡
+        Some (map string_bytes texts.items)) }
+    ensures fault { IfErr result (IsUnread (option_and_then few_outputs (as_array (view value.now))
+        ≡ None)) }
     ensures refused { IsErrOf result Unread.NoMemory → SomeWasRefused }
 {
     let Some(values) = values_of(value) else {
@@ -93,8 +102,11 @@ fn few_texts(alloc: Global, value: &Value) -> Result<Vec<String>, Unread>
 
 /// The destinations at the key `outputs`.
 fn outputs(alloc: Global, table: &Table) -> Result<Vec<String>, Unread>
-    ensures value { IfOk result (λ texts. outputs_of (get_member (codes "outputs") (table_view table.now)) ≡ Some (map string_bytes texts.items)) }
-    ensures fault { IfErr result (IsUnread (outputs_of (get_member (codes "outputs") (table_view table.now)) ≡ None)) }
+    ensures value { IfOk result (λ texts. outputs_of
+        (get_member (codes "outputs") (table_view table.now)) ≡
+        Some (map string_bytes texts.items)) }
+    ensures fault { IfErr result (IsUnread (outputs_of
+        (get_member (codes "outputs") (table_view table.now)) ≡ None)) }
     ensures refused { IsErrOf result Unread.NoMemory → SomeWasRefused }
 {
     match value_at(table, "outputs") {
@@ -172,7 +184,21 @@ impl Network {
         ensures fault { IfErr result (IsFaultOf IsNetworkFault text.now) }
         ensures wanted { IsErrOf result SettingsFault.NoMemory → IsWant text.now }
     {
-        let table = document(alloc, text)?;
-        read_network(alloc, &table)
+        let document = Document::parse(alloc, text)?;
+        Network::from_document(alloc, &document)
+    }
+
+    /// Reads where a concentrator is on the network out of a document of settings.
+    ///
+    /// # Errors
+    ///
+    /// `Range`, with the key, where the value at one is of another type or out of its range; `NoMemory` where a request for memory was
+    /// refused.
+    pub fn from_document(alloc: Global, document: &Document) -> Result<Network, SettingsFault>
+        ensures value { IfOk result (IsNetwork (members_of document.now)) }
+        ensures fault { IfErr result (IsNetworkFault (members_of document.now)) }
+        ensures refused { IsErrOf result SettingsFault.NoMemory → SomeWasRefused }
+    {
+        read_network(alloc, &document.table)
     }
 }

@@ -3,7 +3,6 @@
 use crate::{ShowFault, Shown, run_show};
 use std::alloc::Global;
 use std::io;
-use std::io::BufWriter;
 
 /// The exit statuses.
 const DONE: u8 = 0;
@@ -14,7 +13,7 @@ const FAILED: u8 = 3;
 
 fn show_streams(alloc: Global, rt: &(impl Input + Print)) -> Result<Shown, ShowFault> {
     let mut reader = rt.reader();
-    let mut writer = BufWriter::new(alloc, io::writer(rt)).map_err(|_| ShowFault::Memory)?;
+    let mut writer = io::writer(rt);
     run_show(alloc, &mut reader, &mut writer)
 }
 

@@ -1,5 +1,6 @@
 //! What is kept of a configuration, to read data by it.
-ghost use Rattle.std.specs.Prelude.{◌≡◌, ◌≤◌, map};
+ghost use Rattle.std.specs.Prelude.{◌≡◌, ◌≤◌, sum_by};
+ghost use Rattle.pdc_block.specs.Block.{body_len_of};
 ghost use Rattle.pdc_cfg.specs.declared.config.TheConstants.{MAX_TIME_BASE};
 ghost use Rattle.pdc_show.specs.declared.held.HeldSection.{HeldSection as HeldSectionData};
 
@@ -60,14 +61,16 @@ impl Held {
         instant(frame.soc, frame.frac, self.time_base, rate)
     }
 
-    /// The shapes of the sections, in order.
-    pub fn shapes(&self) -> ArrayVec<Shape, 17>
-        ensures { result.items ≡ map (λ (section : HeldSectionData). section.shape) self.now.sections.items }
+    /// The bytes that the blocks of a data frame take, one after the other.
+    pub fn payload_len(&self) -> usize
+        ensures { result
+            ≡ sum_by (λ (section : HeldSectionData). body_len_of section.shape)
+            self.now.sections.items }
     {
-        let mut shapes = ArrayVec::new();
+        let mut len = 0;
         for section in self.sections.as_slice() {
-            shapes.push(section.shape);
+            len += 2 * section.shape.word_count();
         }
-        shapes
+        len
     }
 }

@@ -1,5 +1,6 @@
 //! A line of hexadecimal, read piece by piece.
 
+use crate::digits::decode;
 use hex::FromHexError;
 use memchr::memchr2;
 use std::alloc::{AllocError, Allocator, Global};
@@ -107,7 +108,7 @@ impl<A: Allocator> Line<A> {
         if self.kept.is_empty() {
             return Ok(None);
         }
-        hex::decode(alloc, self.kept.as_slice()).map(Some)
+        decode(alloc, self.kept.as_slice()).map(Some)
     }
 
     /// Begins the next line.

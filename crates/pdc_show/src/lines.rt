@@ -1,92 +1,157 @@
 //! The lines of one frame.
+ghost use Rattle.std.specs.Prelude.{◌≡◌, ◌≤◌, length, sum_by};
+ghost use Rattle.pdc_block.specs.Block.{body_len_of};
+ghost use Rattle.pdc_cfg.specs.Shape.{word_count_of};
+ghost use Rattle.pdc_show.specs.declared.held.HeldSection.{HeldSection as HeldSectionData};
 
 use crate::held::{Held, HeldSection};
-use pdc_block::Block;
+use crate::text::{
+    append_count, append_hex_byte, append_hex_word, append_phasor, append_signed, append_word,
+};
+use pdc_block::Body;
 use pdc_cfg::ConfigView;
 use pdc_frame::{Command, Frame, StreamId};
+use std::alloc::{AllocError, Allocator};
 use std::io;
 use std::io::Write;
 
-/// Words joined by commas.
-fn print_signed<W: Write>(writer: &mut W, words: &[u16]) -> io::Result<()> {
-    let mut separator = "";
-    for word in words {
-        write!(writer, "{separator}{}", word.cast_signed())?;
-        separator = ",";
+/// Appends the words of a block from one place up to another, joined by commas, in brackets.
+fn append_signed_words<A: Allocator>(
+    out: &mut Vec<u8, A>,
+    body: &Body,
+    from: usize,
+    to: usize,
+) -> Result<(), AllocError>
+    requires { to ≤ word_count_of body.now.shape }
+{
+    let mut before = b'[';
+    for place in from..to {
+        append_signed(out, before, body.word(place))?;
+        before = b',';
     }
-    Ok(())
+    out.extend_from_slice(if from < to { b"]" } else { b"[]" })
 }
 
-/// Words in hexadecimal, joined by commas.
-fn print_hex<W: Write>(writer: &mut W, words: &[u16]) -> io::Result<()> {
-    let mut separator = "";
-    for word in words {
-        write!(writer, "{separator}{word:04X}")?;
-        separator = ",";
+/// Appends the words of a block from one place up to another in hexadecimal, joined by commas, in brackets.
+fn append_hex_words<A: Allocator>(
+    out: &mut Vec<u8, A>,
+    body: &Body,
+    from: usize,
+    to: usize,
+) -> Result<(), AllocError>
+    requires { to ≤ word_count_of body.now.shape }
+{
+    let mut before = b'[';
+    for place in from..to {
+        append_hex_word(out, before, body.word(place))?;
+        before = b',';
     }
-    Ok(())
+    out.extend_from_slice(if from < to { b"]" } else { b"[]" })
 }
 
-/// Phasors joined by semicolons: `re,im`, or `magnitude@angle` where they are polar.
-fn print_phasors<W: Write>(writer: &mut W, words: &[u16], polar: bool) -> io::Result<()> {
-    for k in 0..words.len() / 2 {
-        if k > 0 {
-            write!(writer, ";")?;
-        }
-        let (first, second) = (words[2 * k], words[2 * k + 1].cast_signed());
-        if polar {
-            write!(writer, "{first}@{second}")?;
-        } else {
-            write!(writer, "{},{second}", first.cast_signed())?;
-        }
+/// Appends the phasors of a block joined by semicolons, in brackets: `re,im`, or `magnitude@angle` where they are polar.
+fn append_phasors<A: Allocator>(
+    out: &mut Vec<u8, A>,
+    body: &Body,
+    polar: bool,
+) -> Result<(), AllocError> {
+    let mut before = b'[';
+    for k in 0..usize::from(body.shape.phasors) {
+        let (first, second) = (body.word(1 + 2 * k), body.word(2 + 2 * k));
+        append_phasor(out, before, first, second, polar)?;
+        before = b';';
     }
-    Ok(())
+    out.extend_from_slice(if body.shape.phasors > 0 { b"]" } else { b"[]" })
 }
 
-/// The line of one PMU's block.
-fn print_block<W: Write>(writer: &mut W, section: &HeldSection, block: &Block) -> io::Result<()> {
-    let words = block.words();
-    let freq = 1 + 2 * usize::from(block.shape.phasors);
+/// Appends the line of one PMU's block.
+fn append_block<A: Allocator>(
+    out: &mut Vec<u8, A>,
+    section: &HeldSection,
+    body: &Body,
+) -> Result<(), AllocError> {
+    let freq = 1 + 2 * usize::from(body.shape.phasors);
     let analogs = freq + 2;
-    let digitals = analogs + usize::from(block.shape.analogs);
-    write!(
-        writer,
-        "pmu {} stat={:04X} phasors=[",
-        section.source, words[0]
-    )?;
-    print_phasors(writer, &words[1..freq], section.polar)?;
-    write!(writer, "] freq={}", words[freq].cast_signed())?;
-    write!(writer, " dfreq={} analogs=[", words[freq + 1].cast_signed())?;
-    print_signed(writer, &words[analogs..digitals])?;
-    write!(writer, "] digitals=[")?;
-    print_hex(writer, &words[digitals..])?;
-    writeln!(writer, "]")
+    let digitals = analogs + usize::from(body.shape.analogs);
+    let end = digitals + usize::from(body.shape.digitals);
+    out.extend_from_slice(b"pmu")?;
+    append_word(out, b' ', section.source)?;
+    out.extend_from_slice(b" stat")?;
+    append_hex_word(out, b'=', body.word(0))?;
+    out.extend_from_slice(b" phasors=")?;
+    append_phasors(out, body, section.polar)?;
+    out.extend_from_slice(b" freq")?;
+    append_signed(out, b'=', body.word(freq))?;
+    out.extend_from_slice(b" dfreq")?;
+    append_signed(out, b'=', body.word(freq + 1))?;
+    out.extend_from_slice(b" analogs=")?;
+    append_signed_words(out, body, analogs, digitals)?;
+    out.extend_from_slice(b" digitals=")?;
+    append_hex_words(out, body, digitals, end)?;
+    out.extend_from_slice(b"\n")
 }
 
-/// The lines of a data frame: its fields, and a line for each block.
+/// Appends a line for each block of a payload, which has one for each section.
+fn append_blocks<A: Allocator>(
+    out: &mut Vec<u8, A>,
+    sections: &[HeldSection],
+    payload: &[u8],
+) -> Result<(), AllocError>
+    requires { length payload.now
+        ≡ sum_by (λ (section : HeldSectionData). body_len_of section.shape) sections.now }
+{
+    let mut place = 0;
+    for section in sections {
+        let end = place + 2 * section.shape.word_count();
+        let body = Body {
+            shape: section.shape,
+            bytes: &payload[place..end],
+        };
+        append_block(out, section, &body)?;
+        place = end;
+    }
+    Ok(())
+}
+
+/// Appends the line of a data frame's fields.
+fn append_fields<A: Allocator>(
+    out: &mut Vec<u8, A>,
+    frame: &Frame,
+    instant: Option<u64>,
+) -> Result<(), AllocError> {
+    out.extend_from_slice(b"data id")?;
+    append_word(out, b'=', frame.id.value)?;
+    out.extend_from_slice(b" soc=")?;
+    append_count(out, u64::from(frame.soc))?;
+    out.extend_from_slice(b" frac=")?;
+    append_count(out, u64::from(frame.frac))?;
+    out.extend_from_slice(b" quality")?;
+    append_hex_byte(out, b'=', frame.quality)?;
+    match instant {
+        Some(instant) => {
+            out.extend_from_slice(b" instant=")?;
+            append_count(out, instant)?;
+        }
+        None => out.extend_from_slice(b" instant=none")?,
+    }
+    out.extend_from_slice(b"\n")
+}
+
+/// Appends the lines of a data frame: its fields, and a line for each block.
 ///
 /// # Errors
 ///
-/// What the writer answers.
-pub fn print_data<W: Write>(
-    writer: &mut W,
+/// [`AllocError`] where there is no room and none is got.
+pub fn append_data<A: Allocator>(
+    out: &mut Vec<u8, A>,
     frame: &Frame,
     held: &Held,
-    blocks: &[Block],
-) -> io::Result<()> {
-    let (id, soc, frac, quality) = (frame.id.value, frame.soc, frame.frac, frame.quality);
-    write!(
-        writer,
-        "data id={id} soc={soc} frac={frac} quality={quality:02X}"
-    )?;
-    match held.instant(frame) {
-        Some(instant) => writeln!(writer, " instant={instant}")?,
-        None => writeln!(writer, " instant=none")?,
-    }
-    for (section, block) in held.sections.as_slice().iter().zip(blocks) {
-        print_block(writer, section, block)?;
-    }
-    Ok(())
+) -> Result<(), AllocError>
+    requires { length frame.now.payload.now
+        ≡ sum_by (λ (section : HeldSectionData). body_len_of section.shape) held.now.sections.items }
+{
+    append_fields(out, frame, held.instant(frame))?;
+    append_blocks(out, held.sections.as_slice(), frame.payload)
 }
 
 /// The line of a header frame.

@@ -1,9 +1,11 @@
 //! What a simulated PMU hands to a sink at an instant.
-ghost use Rattle.std.specs.Prelude.{◌≡◌, ◌≤◌, ◌<◌, ◌+◌, ◌*◌, [], ◌∷◌, ℕ, List, true, length, if◌then◌else◌, IfErr, IsSomeAnd, OnErr, OnOk};
+ghost use Rattle.std.specs.Prelude.{◌≡◌, ◌≤◌, ◌<◌, ◌+◌, ◌*◌, [], ◌∷◌, ℕ, List, true, length};
+ghost use Rattle.std.specs.Prelude.{if◌then◌else◌, IfErr, IsSomeAnd, OnErr, OnOk};
 ghost use Rattle.pdc_cfg.specs.Shape.{word_count_of};
 ghost use Rattle.pdc_simulation.specs.Pmu.{after_data, data_of, is_later};
 ghost use Rattle.pdc_frame.specs.declared.tag_limits.TheConstants.{SECONDS};
-ghost use Rattle.pdc_simulation.specs.Sent.{AreWords, Stands, TakesMore, data_at, frames_of, is_due, run_of};
+ghost use Rattle.pdc_simulation.specs.Sent.{AreWords, Stands, TakesMore, data_at, frames_of};
+ghost use Rattle.pdc_simulation.specs.Sent.{is_due, run_of};
 ghost use Rattle.pdc_simulation.specs.Stopped.{IsCause};
 
 use crate::fault::SimulationFault;
@@ -33,7 +35,8 @@ pub fn is_config_due(number: u32, every: Option<u32>, rate: u16) -> bool
 pub fn hand<K: Sink>(sink: &mut K, frame: &[u8]) -> Result<(), SimulationFault>
     ensures ok { OnOk result (TakesMore K.took sink.old sink.new (frame.now ∷ [])) }
     ensures none { OnErr result (TakesMore K.took sink.old sink.new []) }
-    ensures err { IfErr result (λ fault. IsCause fault (K.failures_of sink.old) (K.failures_of sink.new)) }
+    ensures err { IfErr result (λ fault. IsCause fault (K.failures_of sink.old)
+        (K.failures_of sink.new)) }
     ensures more { K.failures_of sink.old ≤ K.failures_of sink.new }
 {
     match sink.send(frame) {
@@ -48,9 +51,11 @@ pub fn repeat_config<K: Sink>(
     config: &[u8],
     sink: &mut K,
 ) -> Result<(), SimulationFault>
-    ensures ok { OnOk result (TakesMore K.took sink.old sink.new (if is_due then config.now ∷ [] else [])) }
+    ensures ok { OnOk result (TakesMore K.took sink.old sink.new (if is_due then config.now ∷
+        [] else [])) }
     ensures none { OnErr result (TakesMore K.took sink.old sink.new []) }
-    ensures err { IfErr result (λ fault. IsCause fault (K.failures_of sink.old) (K.failures_of sink.new)) }
+    ensures err { IfErr result (λ fault. IsCause fault (K.failures_of sink.old)
+        (K.failures_of sink.new)) }
     ensures more { K.failures_of sink.old ≤ K.failures_of sink.new }
 {
     if !is_due {
@@ -67,12 +72,15 @@ fn send_data<K: Sink>(
     sink: &mut K,
 ) -> Result<(), SimulationFault>
     requires instant { instant < SECONDS * sender.old.pmu.rate }
-    requires fits { IsSomeAnd sender.old.pmu.shape (λ shape. length words.now ≡ word_count_of shape) }
+    requires fits { IsSomeAnd sender.old.pmu.shape (λ shape. length words.now ≡
+        word_count_of shape) }
     requires later { is_later sender.old.pmu.last instant ≡ true }
-    ensures ok { OnOk result (TakesMore K.took sink.old sink.new (data_of sender.old.pmu instant words.now ∷ [])) }
+    ensures ok { OnOk result (TakesMore K.took sink.old sink.new
+        (data_of sender.old.pmu instant words.now ∷ [])) }
     ensures sent { OnOk result (sender.new.pmu ≡ after_data sender.old.pmu instant) }
     ensures none { OnErr result (TakesMore K.took sink.old sink.new []) }
-    ensures err { IfErr result (λ fault. IsCause fault (K.failures_of sink.old) (K.failures_of sink.new)) }
+    ensures err { IfErr result (λ fault. IsCause fault (K.failures_of sink.old)
+        (K.failures_of sink.new)) }
     ensures more { K.failures_of sink.old ≤ K.failures_of sink.new }
 {
     sender.frame.clear();
@@ -96,9 +104,11 @@ fn send_words<K: Sink>(
         → TakesMore K.took sink.old sink.new
         (frames_of (run_of run.now.simulated.now run.now.first) config
         (data_at (run_of run.now.simulated.now run.now.first) number words.now))) }
-    ensures stands { OnOk result (Stands (run_of run.now.simulated.now run.now.first) (number + 1) sender.new.pmu) }
+    ensures stands { OnOk result (Stands (run_of run.now.simulated.now run.now.first) (number +
+        1) sender.new.pmu) }
     ensures none { OnErr result (TakesMore K.took sink.old sink.new []) }
-    ensures err { IfErr result (λ fault. IsCause fault (K.failures_of sink.old) (K.failures_of sink.new)) }
+    ensures err { IfErr result (λ fault. IsCause fault (K.failures_of sink.old)
+        (K.failures_of sink.new)) }
     ensures more { K.failures_of sink.old ≤ K.failures_of sink.new }
 {
     let instant = run.first.saturating_add(u64::from(number));
@@ -125,10 +135,14 @@ pub fn send_number<K: Sink>(
 ) -> Result<bool, SimulationFault>
     requires stands { Stands (run_of run.now.simulated.now run.now.first) number sender.old.pmu }
     ensures ok { OnOk result ((words : List ℕ) × AreWords run.now.simulated.now.is_grid number words
-        × ((config : List ℕ) → TakesMore K.took sink.old sink.new (frames_of (run_of run.now.simulated.now run.now.first) config (data_at (run_of run.now.simulated.now run.now.first) number words)))) }
-    ensures stands { OnOk result (Stands (run_of run.now.simulated.now run.now.first) (number + 1) sender.new.pmu) }
+        × ((config : List ℕ) → TakesMore K.took sink.old sink.new
+        (frames_of (run_of run.now.simulated.now run.now.first) config
+        (data_at (run_of run.now.simulated.now run.now.first) number words)))) }
+    ensures stands { OnOk result (Stands (run_of run.now.simulated.now run.now.first) (number +
+        1) sender.new.pmu) }
     ensures none { OnErr result (TakesMore K.took sink.old sink.new []) }
-    ensures err { IfErr result (λ fault. IsCause fault (K.failures_of sink.old) (K.failures_of sink.new)) }
+    ensures err { IfErr result (λ fault. IsCause fault (K.failures_of sink.old)
+        (K.failures_of sink.new)) }
     ensures more { K.failures_of sink.old ≤ K.failures_of sink.new }
 {
     if run.simulated.is_grid {

@@ -1,5 +1,6 @@
 //! Laws of all that a PMU sends.
-ghost use Rattle.pdc_simulation.specs.PmuSent.{CountsRise, InstantsRise, OneFrameAnInstant, OneSectionACount};
+ghost use Rattle.pdc_simulation.specs.PmuSent.{CountsRise, InstantsRise, OneFrameAnInstant};
+ghost use Rattle.pdc_simulation.specs.PmuSent.{OneSectionACount};
 
 use pdc_cfg::configurations_are_read_in_one_way;
 use pdc_frame::{frames_are_read_in_one_way, tag_comes_back};

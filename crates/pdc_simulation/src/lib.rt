@@ -28,7 +28,7 @@ mod simulation;
 
 pub use fault::SimulationFault;
 pub use laws::{what_is_read_is_one, what_is_sent_rises};
-pub use outlets::Place;
+pub use outlets::Target;
 pub use pmu::{MAX_COUNT, Pmu};
 pub use pmu_fault::PmuFault;
 pub use sending::{simulate_from, simulate_into};

@@ -12,7 +12,7 @@ const LOOPBACK: [u8; 4] = [127, 0, 0, 1];
 
 /// A port of 127.0.0.1, or of another address.
 #[derive(Clone, Copy, Debug)]
-pub enum Place<'a> {
+pub enum Target<'a> {
     /// The port with this number of 127.0.0.1.
     Port(u16),
     /// The place that this text names as `HOST:PORT`.
@@ -20,10 +20,10 @@ pub enum Place<'a> {
 }
 
 /// The address that a place is, looked up once.
-fn address_of<R: Net>(net: &R, place: &Place<'_>) -> io::Result<SocketAddr> {
+fn address_of<R: Net>(net: &R, place: &Target<'_>) -> io::Result<SocketAddr> {
     match place {
-        Place::Port(port) => Ok(SocketAddr::from((IpAddr::from(LOOPBACK), *port))),
-        Place::At(text) => match text.to_socket_addrs(net)?.next() {
+        Target::Port(port) => Ok(SocketAddr::from((IpAddr::from(LOOPBACK), *port))),
+        Target::At(text) => match text.to_socket_addrs(net)?.next() {
             Some(address) => Ok(address),
             None => Err(io::Error::from(ErrorKind::NotFound)),
         },
@@ -48,7 +48,7 @@ pub struct Outlet {
 
 impl Outlet {
     /// Opens a socket for the place.
-    fn open<R: Net>(net: &R, place: &Place<'_>) -> io::Result<Outlet> {
+    fn open<R: Net>(net: &R, place: &Target<'_>) -> io::Result<Outlet> {
         let to = address_of(net, place)?;
         let socket = UdpSocket::bind(net, (any_address(&to), 0u16))?;
         Ok(Outlet { to, socket })
@@ -78,7 +78,7 @@ impl Outlets {
     pub fn open<R: Net>(
         rt: &R,
         alloc: Global,
-        places: &[Place<'_>],
+        places: &[Target<'_>],
     ) -> Result<Outlets, SimulationFault> {
         let mut outlets = Vec::new(alloc);
         for place in places {
@@ -123,7 +123,7 @@ impl Sink for Outlets {
 /// A listener at the place, whose `accept` does not wait.
 pub fn open_listener<R: Net<Listener = TcpListener, Stream = TcpStream>>(
     rt: &R,
-    place: &Place<'_>,
+    place: &Target<'_>,
 ) -> io::Result<TcpListener> {
     let listener = TcpListener::bind(rt, address_of(rt, place)?)?;
     listener.set_nonblocking(true)?;

@@ -1,5 +1,6 @@
 //! A simulated PMU.
-ghost use Rattle.std.specs.Prelude.{◌≡◌, ◌<◌, ◌≤◌, ◌+◌, ◌*◌, ◌++◌, ◌∷◌, [], true, false, length, map, pos, IfErr, IsErrOf, IsSomeAnd, IsOk, OnErr, OnOk};
+ghost use Rattle.std.specs.Prelude.{◌≡◌, ◌<◌, ◌≤◌, ◌+◌, ◌*◌, ◌++◌, ◌∷◌, [], true, false, length};
+ghost use Rattle.std.specs.Prelude.{map, pos, IfErr, IsErrOf, IsSomeAnd, IsOk, OnErr, OnOk};
 ghost use Rattle.pdc_frame.specs.Frame.{IsFrame, spelling_of};
 ghost use Rattle.pdc_frame.specs.declared.frame.Kind.TheVariants.{Cfg2};
 ghost use Rattle.pdc_frame.specs.declared.limits.TheConstants.{OVERHEAD};
@@ -10,7 +11,8 @@ ghost use Rattle.pdc_frame.specs.Command.{header_fields};
 ghost use Rattle.pdc_frame.specs.declared.header.TheConstants.{MAX_TEXT};
 ghost use Rattle.pdc_frame.specs.declared.tag_limits.TheConstants.{COUNT_LIMIT, MAX_RATE, SECONDS};
 ghost use Rattle.pdc_simulation.specs.declared.pmu.TheConstants.{MAX_BLOCK_LEN};
-ghost use Rattle.pdc_simulation.specs.Pmu.{after_config, after_data, after_header, config_of, data_fields, data_of, is_later, new_pmu, next_config};
+ghost use Rattle.pdc_simulation.specs.Pmu.{after_config, after_data, after_header, config_of};
+ghost use Rattle.pdc_simulation.specs.Pmu.{data_fields, data_of, is_later, new_pmu, next_config};
 
 use crate::pmu_fault::PmuFault;
 use crate::renamed::renamed;
@@ -131,12 +133,16 @@ impl Pmu {
         out: &mut B,
     ) -> Result<(), PmuFault>
         requires { length text.now ≤ MAX_TEXT }
-        ensures ok { OnOk result (B.content out.new ≡ B.content out.old ++ spelling_of (header_fields self.old.id soc text.now)) }
-        ensures frame { IsFrame (spelling_of (header_fields self.old.id soc text.now)) (header_fields self.old.id soc text.now) }
+        ensures ok { OnOk result (B.content out.new ≡ B.content out.old ++
+            spelling_of (header_fields self.old.id soc text.now)) }
+        ensures frame { IsFrame (spelling_of (header_fields self.old.id soc text.now))
+            (header_fields self.old.id soc text.now) }
         ensures sent { OnOk result (self.new ≡ after_header self.old) }
-        ensures err { OnErr result ((B.content out.new ≡ B.content out.old) × (self.new ≡ self.old)) }
+        ensures err { OnErr result ((B.content out.new ≡ B.content out.old)
+            × (self.new ≡ self.old)) }
         ensures fault { OnErr result (IsErrOf result PmuFault.NoMemory) }
-        ensures room { length (B.content out.old) + (length text.now + OVERHEAD) ≤ B.capacity out.old → IsOk result }
+        ensures room { length (B.content out.old) +
+            (length text.now + OVERHEAD) ≤ B.capacity out.old → IsOk result }
         ensures in_place { length (B.content out.old) + (length text.now + OVERHEAD)
             ≤ B.capacity out.old → B.capacity out.new ≡ B.capacity out.old }
     {
@@ -161,18 +167,23 @@ impl Pmu {
         section: &SectionView,
         out: &mut B,
     ) -> Result<(), PmuFault>
-        ensures ok { OnOk result (B.content out.new ≡ B.content out.old ++ config_of self.old soc (fields_of_view section.now)) }
+        ensures ok { OnOk result (B.content out.new ≡ B.content out.old ++
+            config_of self.old soc (fields_of_view section.now)) }
         ensures frame { OnOk result (IsFrame (config_of self.old soc (fields_of_view section.now))
-            (config_frame_of Cfg2 self.old.id soc (next_config self.old (fields_of_view section.now)))) }
+            (config_frame_of Cfg2 self.old.id soc (next_config self.old
+            (fields_of_view section.now)))) }
         ensures config { OnOk result (IsConfig
             (payload_of (next_config self.old (fields_of_view section.now)))
             (next_config self.old (fields_of_view section.now))) }
         ensures sent { OnOk result (self.new ≡ after_config self.old (fields_of_view section.now)) }
-        ensures err { OnErr result ((B.content out.new ≡ B.content out.old) × (self.new ≡ self.old)) }
+        ensures err { OnErr result ((B.content out.new ≡ B.content out.old)
+            × (self.new ≡ self.old)) }
         ensures used_up { self.old.count ≡ MAX_COUNT → IsErrOf result PmuFault.CountsUsedUp }
-        ensures fault { self.old.count < MAX_COUNT → OnErr result (IsErrOf result PmuFault.NoMemory) }
+        ensures fault { self.old.count < MAX_COUNT →
+            OnErr result (IsErrOf result PmuFault.NoMemory) }
         ensures room { self.old.count < MAX_COUNT
-            → length (B.content out.old) + length (config_of self.old soc (fields_of_view section.now))
+            → length (B.content out.old) +
+            length (config_of self.old soc (fields_of_view section.now))
             ≤ B.capacity out.old → IsOk result }
     {
         if self.count == MAX_COUNT {
@@ -201,14 +212,20 @@ impl Pmu {
         out: &mut B,
     ) -> Result<(), PmuFault>
         requires instant { instant < SECONDS * self.old.rate }
-        requires shape { IsSomeAnd self.old.shape (λ shape. length words.now ≡ word_count_of shape) }
-        ensures ok { OnOk result (B.content out.new ≡ B.content out.old ++ data_of self.old instant words.now) }
-        ensures frame { OnOk result (IsFrame (data_of self.old instant words.now) (data_fields self.old instant words.now)) }
+        requires shape { IsSomeAnd self.old.shape (λ shape. length words.now ≡
+            word_count_of shape) }
+        ensures ok { OnOk result (B.content out.new ≡ B.content out.old ++
+            data_of self.old instant words.now) }
+        ensures frame { OnOk result (IsFrame (data_of self.old instant words.now)
+            (data_fields self.old instant words.now)) }
         ensures sent { OnOk result (self.new ≡ after_data self.old instant) }
         ensures later { OnOk result (is_later self.old.last instant ≡ true) }
-        ensures err { OnErr result ((B.content out.new ≡ B.content out.old) × (self.new ≡ self.old)) }
-        ensures not_later { is_later self.old.last instant ≡ false → IsErrOf result PmuFault.NotLater }
-        ensures fault { is_later self.old.last instant ≡ true → OnErr result (IsErrOf result PmuFault.NoMemory) }
+        ensures err { OnErr result ((B.content out.new ≡ B.content out.old)
+            × (self.new ≡ self.old)) }
+        ensures not_later { is_later self.old.last instant ≡ false →
+            IsErrOf result PmuFault.NotLater }
+        ensures fault { is_later self.old.last instant ≡ true →
+            OnErr result (IsErrOf result PmuFault.NoMemory) }
         ensures room { is_later self.old.last instant ≡ true
             → length (B.content out.old) + length (data_of self.old instant words.now)
             ≤ B.capacity out.old → IsOk result }
@@ -230,7 +247,8 @@ impl Pmu {
     fn config_of<'a>(&self, next: &'a Section) -> ConfigView<'a>
         ensures flags { result.flags ≡ 0 }
         ensures time_base { result.time_base ≡ self.now.time_base }
-        ensures sections { map fields_of_view result.sections.items ≡ fields_of_section next.now ∷ [] }
+        ensures sections { map fields_of_view result.sections.items ≡ fields_of_section next.now ∷
+            [] }
         ensures rate { result.rate ≡ pos self.now.rate }
     {
         let mut sections = ArrayVec::new();
@@ -251,9 +269,11 @@ impl Pmu {
         out: &mut B,
     ) -> Result<(), AllocError>
         requires { self.now.count < MAX_COUNT }
-        ensures ok { OnOk result (B.content out.new ≡ B.content out.old ++ config_of self.now soc (fields_of_view section.now)) }
+        ensures ok { OnOk result (B.content out.new ≡ B.content out.old ++
+            config_of self.now soc (fields_of_view section.now)) }
         ensures frame { IsFrame (config_of self.now soc (fields_of_view section.now))
-            (config_frame_of Cfg2 self.now.id soc (next_config self.now (fields_of_view section.now))) }
+            (config_frame_of Cfg2 self.now.id soc (next_config self.now
+            (fields_of_view section.now))) }
         ensures config { OnOk result (IsConfig
             (payload_of (next_config self.now (fields_of_view section.now)))
             (next_config self.now (fields_of_view section.now))) }
@@ -276,10 +296,13 @@ impl Pmu {
     ) -> Result<(), AllocError>
         requires instant { instant < SECONDS * self.now.rate }
         requires few { 2 * length words.now ≤ MAX_BLOCK_LEN }
-        ensures ok { OnOk result (B.content out.new ≡ B.content out.old ++ data_of self.now instant words.now) }
-        ensures frame { IsFrame (data_of self.now instant words.now) (data_fields self.now instant words.now) }
+        ensures ok { OnOk result (B.content out.new ≡ B.content out.old ++
+            data_of self.now instant words.now) }
+        ensures frame { IsFrame (data_of self.now instant words.now)
+            (data_fields self.now instant words.now) }
         ensures err { OnErr result (B.content out.new ≡ B.content out.old) }
-        ensures room { length (B.content out.old) + length (data_of self.now instant words.now) ≤ B.capacity out.old → IsOk result }
+        ensures room { length (B.content out.old) +
+            length (data_of self.now instant words.now) ≤ B.capacity out.old → IsOk result }
     {
         let mut payload: ArrayVec<u8, MAX_BLOCK_LEN> = ArrayVec::new();
         append_words(words, &mut payload);

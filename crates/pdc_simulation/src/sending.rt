@@ -1,6 +1,7 @@
 //! What a simulated PMU sends, frame by frame.
 ghost use Rattle.std.specs.Prelude.{◌≡◌, ◌≤◌, ℕ, List, IfErr, OnErr, OnOk};
-ghost use Rattle.pdc_simulation.specs.Sent.{HasTaken, IsAll, IsFirstPart, IsFront, IsSimulated, IsUpTo, Stands, frames_of, run_of};
+ghost use Rattle.pdc_simulation.specs.Sent.{HasTaken, IsAll, IsFirstPart, IsFront, IsSimulated};
+ghost use Rattle.pdc_simulation.specs.Sent.{IsUpTo, Stands, frames_of, run_of};
 ghost use Rattle.pdc_simulation.specs.Starting.{IsBegun};
 ghost use Rattle.pdc_simulation.specs.Stopped.{IsCause, IsClock, IsStopped};
 
@@ -75,12 +76,15 @@ fn send_frames<K: Sink, R: Clock>(
     sink: &mut K,
 ) -> Result<(), SimulationFault>
     requires stands { Stands (run_of run.now.simulated.now run.now.first) 0 sender.old.pmu }
-    ensures ok { OnOk result (HasTaken K.took (run_of run.now.simulated.now run.now.first) config.now
+    ensures ok { OnOk result (HasTaken K.took (run_of run.now.simulated.now run.now.first)
+        config.now
         (IsUpTo (run_of run.now.simulated.now run.now.first) run.now.simulated.now.count) sink.old
         sink.new) }
-    ensures cut { OnErr result (HasTaken K.took (run_of run.now.simulated.now run.now.first) config.now
+    ensures cut { OnErr result (HasTaken K.took (run_of run.now.simulated.now run.now.first)
+        config.now
         (IsFirstPart (run_of run.now.simulated.now run.now.first)) sink.old sink.new) }
-    ensures err { IfErr result (λ fault. IsCause fault (K.failures_of sink.old) (K.failures_of sink.new)) }
+    ensures err { IfErr result (λ fault. IsCause fault (K.failures_of sink.old)
+        (K.failures_of sink.new)) }
     ensures more { K.failures_of sink.old ≤ K.failures_of sink.new }
 {
     let rate = run.simulated.rate;
@@ -112,11 +116,14 @@ fn send_all<K: Sink, R: Clock>(
     sink: &mut K,
 ) -> Result<(), SimulationFault>
     requires stands { Stands (run_of run.now.simulated.now run.now.first) 0 sender.old.pmu }
-    ensures ok { OnOk result (HasTaken K.took (run_of run.now.simulated.now run.now.first) config.now
+    ensures ok { OnOk result (HasTaken K.took (run_of run.now.simulated.now run.now.first)
+        config.now
         (IsAll (run_of run.now.simulated.now run.now.first)) sink.old sink.new) }
-    ensures cut { OnErr result (HasTaken K.took (run_of run.now.simulated.now run.now.first) config.now
+    ensures cut { OnErr result (HasTaken K.took (run_of run.now.simulated.now run.now.first)
+        config.now
         (IsFront (run_of run.now.simulated.now run.now.first)) sink.old sink.new) }
-    ensures err { IfErr result (λ fault. IsCause fault (K.failures_of sink.old) (K.failures_of sink.new)) }
+    ensures err { IfErr result (λ fault. IsCause fault (K.failures_of sink.old)
+        (K.failures_of sink.new)) }
 {
     match hand(sink, config) {
         Ok(()) => send_frames(rt, run, sender, config, served, sink),
@@ -141,7 +148,8 @@ pub fn simulate_from<K: Sink, R: Clock>(
     sink: &mut K,
 ) -> Result<(), SimulationFault>
     ensures ok { OnOk result (IsSimulated K.took (run_of simulated.now first) sink.old sink.new) }
-    ensures err { IfErr result (IsStopped K.took K.failures_of (run_of simulated.now first) sink.old sink.new) }
+    ensures err { IfErr result (IsStopped K.took K.failures_of (run_of simulated.now first)
+        sink.old sink.new) }
 {
     match begun(alloc, simulated, first) {
         Ok((pmu, config)) => {
@@ -165,7 +173,8 @@ pub fn simulate_into<K: Sink, R: Clock>(
     served: &mut Option<Served>,
     sink: &mut K,
 ) -> Result<(), SimulationFault>
-    ensures ok { OnOk result ((first : ℕ) × IsSimulated K.took (run_of simulated.now first) sink.old sink.new) }
+    ensures ok { OnOk result ((first : ℕ)
+        × IsSimulated K.took (run_of simulated.now first) sink.old sink.new) }
     ensures err { IfErr result (λ fault. (first : ℕ)
         × IsStopped K.took K.failures_of (run_of simulated.now first) sink.old sink.new fault) }
 {

@@ -2,7 +2,7 @@
 ghost use Rattle.std.specs.Prelude.{◌≡◌, ◌≤◌, ◌<◌};
 ghost use Rattle.pdc_frame.specs.declared.tag_limits.TheConstants.{MAX_RATE};
 
-use crate::outlets::Place;
+use crate::outlets::Target;
 use pdc_frame::StreamId;
 
 /// What is simulated.
@@ -15,9 +15,9 @@ pub struct Simulated<'a> {
     /// How many data frames are sent.
     pub count: u32,
     /// The places that each frame goes to by UDP.
-    pub places: &'a [Place<'a>],
+    pub places: &'a [Target<'a>],
     /// The TCP port at which up to four consumers are served.
-    pub tcp: Option<Place<'a>>,
+    pub tcp: Option<Target<'a>>,
     /// After how many seconds the configuration is sent again; where there is none, it is sent once.
     pub config_every: Option<u32>,
     /// Whether it is a PMU at a bus of a simulated grid; else it has one phasor, which counts.

@@ -24,8 +24,10 @@ impl<M: Mark + Drop> Begun<M> {
     ///
     /// `Device` where the device failed, and `StartsUsedUp` where no start number is left.
     pub fn new(mark: M) -> Result<Begun<M>, MarkFault>
-        ensures begun { IfOk result (λ begun. M.stored (begun_mark begun) ≡ with_next_start (M.stored mark)) }
-        ensures faults { OnErr result (IsErrOf result MarkFault.Device ⊎ IsErrOf result MarkFault.StartsUsedUp) }
+        ensures begun { IfOk result (λ begun. M.stored (begun_mark begun) ≡
+            with_next_start (M.stored mark)) }
+        ensures faults { OnErr result (IsErrOf result MarkFault.Device ⊎ IsErrOf result
+            MarkFault.StartsUsedUp) }
         ensures safe { M.is_safe → IsErrOf result MarkFault.Device → ⊥ }
     {
         let mut mark = mark;

@@ -1,11 +1,12 @@
 //! What a concentrator is started with, and by which steps.
 ghost use Rattle.std.specs.Prelude.{string_bytes};
+ghost use Rattle.pdc_settings.specs.Document.{IsDocumentOf};
 ghost use Rattle.pdc_settings.specs.Said.{SaysNetwork};
 ghost use Rattle.pdc_startup.specs.Said.{Says};
 
 use crate::concentrator::Concentrator;
 use crate::recorded::RecordFile;
-use pdc_settings::Network;
+use pdc_settings::{Document, Network};
 
 /// The files of a concentrator, by their names.
 #[derive(Clone, Copy)]
@@ -23,10 +24,13 @@ pub struct Files<'a> {
 pub struct Described {
     /// Its text.
     pub text: String,
+    /// The document that its text is, out of which the rest was read.
+    pub document: Document,
     /// The node or the merger that it describes.
     pub concentrator: Concentrator,
     /// Where that is on the network.
     pub network: Network,
+    pub ghost parsed: { ∥ IsDocumentOf (string_bytes text) document ∥₁ },
     pub ghost said: { ∥ Says (string_bytes text) concentrator ∥₁ },
     pub ghost network_said: { ∥ SaysNetwork (string_bytes text) network ∥₁ },
 }

@@ -1,7 +1,9 @@
 //! The files of a concentrator.
-ghost use Rattle.std.specs.Prelude.{IfErr, IfOk};
+ghost use Rattle.std.specs.Prelude.{◌≡◌, IfErr, IfOk, string_bytes};
+ghost use Rattle.pdc_settings.specs.Document.{IsDocumentOf};
 ghost use Rattle.pdc_startup.specs.Concentrator.{IsMerger, IsNode};
 ghost use Rattle.pdc_startup.specs.Faults.{IsOfMark, IsOfSettings};
+ghost use Rattle.pdc_startup.specs.Said.{Says};
 
 use crate::begun::Begun;
 use crate::concentrator::Concentrator;
@@ -9,7 +11,7 @@ use crate::described::Described;
 use crate::fault::{LoadFault, ServiceFault};
 use pdc_disk::FileDisk;
 use pdc_mark::DiskMark;
-use pdc_settings::{MergerSettings, Network, NodeSettings, SettingsFault};
+use pdc_settings::{Document, MergerSettings, Network, NodeSettings, SettingsFault};
 use std::alloc::Global;
 use std::fs::File;
 use std::io::ErrorKind;
@@ -28,32 +30,45 @@ pub fn read_settings_text<R: Files<File = File> + AllocGlobal>(
     }
 }
 
-/// The node that this text describes, and where it is on the network.
-pub fn node_of(alloc: Global, text: String) -> Result<Described, LoadFault>
-    ensures node { IfOk result (λ described. IsNode described.concentrator) }
+/// What a settings file says whose text and document are these, and which describes this concentrator.
+fn describe(
+    alloc: Global,
+    text: String,
+    document: Document,
+    concentrator: Concentrator,
+) -> Result<Described, LoadFault>
+    requires parsed { IsDocumentOf (string_bytes text) document }
+    requires said { ∥ Says (string_bytes text) concentrator ∥₁ }
+    ensures same { IfOk result (λ described. described.concentrator ≡ concentrator) }
     ensures faults { IfErr result IsOfSettings }
 {
-    let settings = NodeSettings::from_toml(alloc, text.as_str()).map_err(LoadFault::Refused)?;
-    let network = Network::from_toml(alloc, text.as_str()).map_err(LoadFault::Refused)?;
+    let network = Network::from_document(alloc, &document).map_err(LoadFault::Refused)?;
     Ok(Described {
         text,
-        concentrator: Concentrator::Node(settings),
+        document,
+        concentrator,
         network,
     })
 }
 
-/// The merger that this text describes, and where it is on the network.
+/// What this text says, which describes a node.
+pub fn node_of(alloc: Global, text: String) -> Result<Described, LoadFault>
+    ensures node { IfOk result (λ described. IsNode described.concentrator) }
+    ensures faults { IfErr result IsOfSettings }
+{
+    let document = Document::parse(alloc, text.as_str()).map_err(LoadFault::Refused)?;
+    let settings = NodeSettings::from_document(&document).map_err(LoadFault::Refused)?;
+    describe(alloc, text, document, Concentrator::Node(settings))
+}
+
+/// What this text says, which describes the merger.
 pub fn merger_of(alloc: Global, text: String) -> Result<Described, LoadFault>
     ensures merger { IfOk result (λ described. IsMerger described.concentrator) }
     ensures faults { IfErr result IsOfSettings }
 {
-    let settings = MergerSettings::from_toml(alloc, text.as_str()).map_err(LoadFault::Refused)?;
-    let network = Network::from_toml(alloc, text.as_str()).map_err(LoadFault::Refused)?;
-    Ok(Described {
-        text,
-        concentrator: Concentrator::Merger(settings),
-        network,
-    })
+    let document = Document::parse(alloc, text.as_str()).map_err(LoadFault::Refused)?;
+    let settings = MergerSettings::from_document(&document).map_err(LoadFault::Refused)?;
+    describe(alloc, text, document, Concentrator::Merger(settings))
 }
 
 /// Why a mark file was not opened: one whose lock another process has is in use.

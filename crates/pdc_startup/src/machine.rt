@@ -2,10 +2,14 @@
 ghost use Rattle.std.specs.Prelude.{◌≡◌, List, IfErr, IfOk, [], ◌∷◌, vec_len};
 ghost use Rattle.pdc_startup.specs.Begun.{begun_mark};
 ghost use Rattle.pdc_startup.specs.Concentrator.{IsMerger, IsNode, streams_of};
-ghost use Rattle.pdc_startup.specs.Faults.{IsOfFile, IsOfListener, IsOfMark, IsOfRecord, IsOfSink, IsOfSources};
+ghost use Rattle.pdc_startup.specs.Faults.{IsOfFile, IsOfListener, IsOfMark, IsOfRecord};
+ghost use Rattle.pdc_startup.specs.Faults.{IsOfSink, IsOfSources};
 ghost use Rattle.pdc_startup.specs.Steps.{Attempt, Tells, attempt, beginning, reading};
 ghost use Rattle.pdc_startup.specs.Watching.{AreSilent};
-ghost use Rattle.pdc_startup.specs.declared.described.Step.TheVariants.{BeginRecord, OpenListener, OpenMetrics, OpenSink, OpenSources};
+ghost use Rattle.pdc_startup.specs.declared.described.Step.TheVariants.{BeginRecord};
+ghost use Rattle.pdc_startup.specs.declared.described.Step.TheVariants.{OpenListener};
+ghost use Rattle.pdc_startup.specs.declared.described.Step.TheVariants.{OpenMetrics, OpenSink};
+ghost use Rattle.pdc_startup.specs.declared.described.Step.TheVariants.{OpenSources};
 
 use crate::begun::Begun;
 use crate::described::{Described, Files};
@@ -103,7 +107,8 @@ pub trait Machine {
         mark: &Begun<M>,
     ) -> Result<Option<Series<'a>>, ServiceFault>
         ensures faults { IfErr result IsOfRecord }
-        ensures told { Tells tried self.old self.new (attempt (BeginRecord files.now) described.now result ∷ []) };
+        ensures told { Tells tried self.old self.new
+            (attempt (BeginRecord files.now) described.now result ∷ []) };
 
     /// Opens a link to the sender of each stream, in their order.
     ///
@@ -119,12 +124,14 @@ pub trait Machine {
         described: &Described,
         observed: &'a Observed,
     ) -> Result<Vec<Link<'a, R, Self::Socket>>, ServiceFault>
-        ensures links { IfOk result (λ links. vec_len links ≡ streams_of described.now.concentrator) }
+        ensures links { IfOk result (λ links. vec_len links ≡
+            streams_of described.now.concentrator) }
         // They said nothing yet.
         ensures silent { IfOk result (λ links. AreSilent
             ⟦<Link<'a, R, Self::Socket, TcpDialer<'a, R>> as Source>⟧.told links.items) }
         ensures faults { IfErr result IsOfSources }
-        ensures told { Tells tried self.old self.new (attempt OpenSources described.now result ∷ []) };
+        ensures told { Tells tried self.old self.new (attempt OpenSources described.now result ∷
+            []) };
 
     /// Opens where frames go: the port of the loopback, and the further destinations.
     ///
@@ -151,7 +158,8 @@ pub trait Machine {
         described: &Described,
     ) -> Result<TcpListener, ServiceFault>
         ensures faults { IfErr result IsOfListener }
-        ensures told { Tells tried self.old self.new (attempt OpenListener described.now result ∷ []) };
+        ensures told { Tells tried self.old self.new (attempt OpenListener described.now result ∷
+            []) };
 
     /// Opens the listener of the counters, where they are served. Its `accept` does not wait.
     ///
@@ -164,7 +172,8 @@ pub trait Machine {
         described: &Described,
     ) -> Result<Option<TcpListener>, ServiceFault>
         ensures faults { IfErr result IsOfListener }
-        ensures told { Tells tried self.old self.new (attempt OpenMetrics described.now result ∷ []) };
+        ensures told { Tells tried self.old self.new (attempt OpenMetrics described.now result ∷
+            []) };
 }
 
 /// The machine that the program runs on. It tells nothing of what was tried.

@@ -167,11 +167,14 @@ impl Observed {
         is_recorded: bool,
     ) -> Result<Observed, AllocError>
         // Each further destination has a tally.
-        ensures outputs { IfOk result (λ observed. vec_len observed.outputs ≡ vec_len network.now.outputs) }
+        ensures outputs { IfOk result (λ observed. vec_len observed.outputs ≡
+            vec_len network.now.outputs) }
         // The aligner is woken where the settings say that it ticks as soon as a row is whole.
-        ensures wake { IfOk result (λ observed. is_some observed.wake ≡ is_woken (service_of concentrator.now).tick) }
+        ensures wake { IfOk result (λ observed. is_some observed.wake ≡
+            is_woken (service_of concentrator.now).tick) }
         // How the run stands is kept where the settings say that it is served.
-        ensures measured { IfOk result (λ observed. is_some observed.measured ≡ is_some network.now.metrics_port) }
+        ensures measured { IfOk result (λ observed. is_some observed.measured ≡
+            is_some network.now.metrics_port) }
         ensures recording { IfOk result (λ observed. is_some observed.recording ≡ is_recorded) }
     {
         let tallies = tallies_of(alloc, concentrator)?;

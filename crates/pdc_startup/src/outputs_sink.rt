@@ -25,7 +25,8 @@ impl<'a, O: Outputs + Drop> OutputsSink<'a, O> {
 
 /// Hands a frame to the further destinations, one for each tally.
 fn send_further<O: Outputs>(outputs: &mut O, tallies: &[OutputTally], bytes: &[u8])
-    ensures kept { (before : O) (given : List (List ℕ)) → O.took before outputs.old given → O.took before outputs.new given }
+    ensures kept { (before : O) (given : List (List ℕ)) → O.took before outputs.old given →
+        O.took before outputs.new given }
     ensures same { O.failures_of outputs.new ≡ O.failures_of outputs.old }
 {
     for (number, tally) in tallies.iter().enumerate() {

@@ -19,7 +19,8 @@ impl SystemOutputs {
 }
 
 impl Sink for SystemOutputs {
-    ghost took = { λ before now given. ⟦<UdpOutputs<UdpSocket> as Sink>⟧.took before.sockets now.sockets given };
+    ghost took = { λ before now given. ⟦<UdpOutputs<UdpSocket> as Sink>⟧.took before.sockets
+        now.sockets given };
 
     ghost nothing = { λ s. ⟦<UdpOutputs<UdpSocket> as Sink>⟧.nothing s.sockets };
 
@@ -35,9 +36,11 @@ impl Sink for SystemOutputs {
 }
 
 impl Outputs for SystemOutputs {
-    ghost handed = { λ before now number hands. ⟦<UdpOutputs<UdpSocket> as Outputs>⟧.handed before.sockets now.sockets number hands };
+    ghost handed = { λ before now number hands. ⟦<UdpOutputs<UdpSocket> as Outputs>⟧.handed
+        before.sockets now.sockets number hands };
 
-    ghost handed_none = { λ s number. ⟦<UdpOutputs<UdpSocket> as Outputs>⟧.handed_none s.sockets number };
+    ghost handed_none = { λ s number. ⟦<UdpOutputs<UdpSocket> as Outputs>⟧.handed_none s.sockets
+        number };
 
     fn send_further(&mut self, number: usize, bytes: &[u8]) -> Result<(), i32> {
         self.sockets.send_further(number, bytes)

@@ -30,9 +30,12 @@ impl<C: Opens, M: Store + Drop> Station<C, M> {
         lead: u16,
     ) -> Result<Station<C, M>, AllocError>
         requires { (M.stored mark).start < u32.MAX }
-        ensures mark { IfOk result (λ station. M.stored (mark_in station.publisher) ≡ with_next_start (M.stored mark)) }
+        ensures mark { IfOk result (λ station. M.stored (mark_in station.publisher) ≡
+            with_next_start (M.stored mark)) }
         ensures stands { IfOk result (λ station. C.stands_for station.core (C.given_with settings
-            (M.stored (mark_in station.publisher)).start (M.stored (mark_in station.publisher)).floor (M.stored (mark_in station.publisher)).counts) []) }
+            (M.stored (mark_in station.publisher)).start
+            (M.stored (mark_in station.publisher)).floor
+            (M.stored (mark_in station.publisher)).counts) []) }
         ensures settings { IfOk result (λ station. C.settings_of station.core ≡ settings) }
         ensures lead { IfOk result (λ station. lead_in station.publisher ≡ lead) }
         ensures refused { OnErr result SomeWasRefused }

@@ -1,6 +1,8 @@
 //! Laws of what is published.
-ghost use Rattle.pdc_station.specs.Calls.{AllAreSent, NoLostRowIsSent, RowsAreOfTheLife, SentRowsAreAppended, SentRowsRise};
-ghost use Rattle.pdc_station.specs.Published.{ArrivalsPublishNothing, PopsArePublished, TicksPublishNothing};
+ghost use Rattle.pdc_station.specs.Calls.{AllAreSent, NoLostRowIsSent, RowsAreOfTheLife};
+ghost use Rattle.pdc_station.specs.Calls.{SentRowsAreAppended, SentRowsRise};
+ghost use Rattle.pdc_station.specs.Published.{ArrivalsPublishNothing, PopsArePublished};
+ghost use Rattle.pdc_station.specs.Published.{TicksPublishNothing};
 
 /// What a life has published grows with each row that is taken out, by the frame of the row, and with nothing else.
 ///

@@ -1,10 +1,12 @@
 //! Stops of a station: its life ends, and the next one begins with what the mark then stores. It is opened before anything is stored,
 //! so a stop that is refused changes nothing.
-ghost use Rattle.std.specs.Prelude.{◌≡◌, ◌+◌, ◌*◌, ◌<◌, ◌≤◌, ◌↔◌, [], IfNone, IfOk, IfSome, IsErrOf, OnErr, OnOk, if◌then◌else◌};
+ghost use Rattle.std.specs.Prelude.{◌≡◌, ◌+◌, ◌*◌, ◌<◌, ◌≤◌, ◌↔◌, [], IfNone, IfOk, IfSome};
+ghost use Rattle.std.specs.Prelude.{IsErrOf, OnErr, OnOk, if◌then◌else◌};
 ghost use Rattle.pdc_core.specs.pdc_memory.Asking.{SomeWasRefused};
 ghost use Rattle.pdc_mark.specs.Stored.{with_due};
 ghost use Rattle.pdc_publisher.specs.Publisher.{lead_in, mark_in, output_in};
-ghost use Rattle.pdc_station.specs.Station.{FallsAt, HasStopped, IsOfSomeLife, left_by, start_left, stop_in_publish};
+ghost use Rattle.pdc_station.specs.Station.{FallsAt, HasStopped, IsOfSomeLife, left_by};
+ghost use Rattle.pdc_station.specs.Station.{start_left, stop_in_publish};
 ghost use Rattle.pdc_frame.specs.declared.tag_limits.TheConstants.{MAX_RATE, SECONDS};
 
 use crate::fault::StopFault;
@@ -73,10 +75,13 @@ fn left_behind(
 fn stop_publish<M: Store>(publisher: &mut Publisher<M>, due: Option<u64>, landed: bool)
     requires { IfSome due (λ instant. instant < SECONDS * MAX_RATE) }
     ensures stored { M.stored (mark_in publisher.new)
-        ≡ (if landed then with_due (lead_in publisher.old) due (M.stored (mark_in publisher.old)) else M.stored (mark_in publisher.old)) }
-    ensures stops { M.stops_as (stop_in_publish landed (lead_in publisher.old) due (M.stored (mark_in publisher.old)).floor)
+        ≡ (if landed then with_due (lead_in publisher.old) due (M.stored (mark_in publisher.old))
+        else M.stored (mark_in publisher.old)) }
+    ensures stops { M.stops_as (stop_in_publish landed (lead_in publisher.old) due
+        (M.stored (mark_in publisher.old)).floor)
         (mark_in publisher.old) (mark_in publisher.new) }
-    ensures kept { (output_in publisher.new ≡ output_in publisher.old) × (lead_in publisher.new ≡ lead_in publisher.old) }
+    ensures kept { (output_in publisher.new ≡ output_in publisher.old)
+        × (lead_in publisher.new ≡ lead_in publisher.old) }
 {
     match due {
         Some(instant) => publisher.publish_stopped(instant, landed),
@@ -93,9 +98,12 @@ fn stop_publisher<M: Store>(
 )
     requires tagged { IfSome due (λ instant. instant < SECONDS * MAX_RATE) }
     requires left { start_left at (M.stored (mark_in publisher.old)).start < u32.MAX }
-    ensures stored { M.stored (mark_in publisher.new) ≡ left_by at (lead_in publisher.old) due waiting.now (M.stored (mark_in publisher.old)) }
-    ensures stops { FallsAt M.stops_as at (lead_in publisher.old) due waiting.now (M.stored (mark_in publisher.old)) (mark_in publisher.old) (mark_in publisher.new) }
-    ensures kept { (output_in publisher.new ≡ output_in publisher.old) × (lead_in publisher.new ≡ lead_in publisher.old) }
+    ensures stored { M.stored (mark_in publisher.new) ≡
+        left_by at (lead_in publisher.old) due waiting.now (M.stored (mark_in publisher.old)) }
+    ensures stops { FallsAt M.stops_as at (lead_in publisher.old) due waiting.now
+        (M.stored (mark_in publisher.old)) (mark_in publisher.old) (mark_in publisher.new) }
+    ensures kept { (output_in publisher.new ≡ output_in publisher.old)
+        × (lead_in publisher.new ≡ lead_in publisher.old) }
 {
     match at {
         StopAt::Between => publisher.stopped(),
@@ -109,7 +117,9 @@ fn stop_publisher<M: Store>(
 
 /// The core of the life behind this start, with what is stored before it.
 fn opened<C: Opens>(core: &C, alloc: Global, stored: &Stored) -> Result<C, StopFault>
-    ensures stands { IfOk result (λ next. C.stands_for next (C.given_with (C.settings_of core.now) (stored.now.start + 1) stored.now.floor stored.now.counts) []) }
+    ensures stands { IfOk result (λ next. C.stands_for next
+        (C.given_with (C.settings_of core.now) (stored.now.start +
+        1) stored.now.floor stored.now.counts) []) }
     ensures some { IfOk result (λ next. IsOfSomeLife (C.stands_for next)) }
     ensures settings { IfOk result (λ next. C.settings_of next ≡ C.settings_of core.now) }
     ensures popped { IfOk result (λ next. C.popped_of next ≡ stored.now.floor) }
@@ -135,10 +145,15 @@ impl<C: Opens, M: Store> Station<C, M> {
     /// `StartsUsedUp` where what is left is the last start number; `NoMemory` where a request for the memory of the next life was refused.
     /// Then nothing changes.
     pub fn stop(&mut self, alloc: Global, at: StopAt) -> Result<(), StopFault>
-        ensures stops { OnOk result (HasStopped M.stored M.stops_as (C.stands_for self.old.core) at (lead_in self.old.publisher) (mark_in self.old.publisher) (mark_in self.new.publisher)) }
-        ensures stands { OnOk result (C.stands_for self.new.core (C.given_with (C.settings_of self.old.core)
-            (M.stored (mark_in self.new.publisher)).start (M.stored (mark_in self.new.publisher)).floor (M.stored (mark_in self.new.publisher)).counts) []) }
-        ensures used_up { IsErrOf result StopFault.StartsUsedUp ↔ (u32.MAX ≤ start_left at (M.stored (mark_in self.old.publisher)).start) }
+        ensures stops { OnOk result (HasStopped M.stored M.stops_as (C.stands_for self.old.core) at
+            (lead_in self.old.publisher) (mark_in self.old.publisher) (mark_in self.new.publisher)) }
+        ensures stands { OnOk result (C.stands_for self.new.core
+            (C.given_with (C.settings_of self.old.core)
+            (M.stored (mark_in self.new.publisher)).start
+            (M.stored (mark_in self.new.publisher)).floor
+            (M.stored (mark_in self.new.publisher)).counts) []) }
+        ensures used_up { IsErrOf result StopFault.StartsUsedUp ↔
+            (u32.MAX ≤ start_left at (M.stored (mark_in self.old.publisher)).start) }
         ensures refused { IsErrOf result StopFault.NoMemory → SomeWasRefused }
         ensures err { OnErr result (self.new ≡ self.old) }
         ensures settings { C.settings_of self.new.core ≡ C.settings_of self.old.core }

@@ -10,7 +10,8 @@ use pdc_open_row::CopyFrom;
 pub fn copy_at<T: CopyFrom>(mine: &mut [T], others: &[T], circle: &Circle, instants: &[u64])
     requires size { length mine.old ≡ circle.now.window }
     requires others { length others.now ≡ circle.now.window }
-    ensures { (default : T) → mine.new ≡ copied default circle.now.window instants.now others.now mine.old }
+    ensures { (default : T) → mine.new ≡ copied default circle.now.window instants.now others.now
+        mine.old }
 {
     for instant in instants {
         let place = circle.place_of(*instant);
@@ -27,7 +28,8 @@ pub fn copy_at_queued<T: CopyFrom>(
 )
     requires size { length mine.old ≡ circle.now.window }
     requires others { length others.now ≡ circle.now.window }
-    ensures { (default : T) → mine.new ≡ copied default circle.now.window instants.now.items others.now mine.old }
+    ensures { (default : T) → mine.new ≡ copied default circle.now.window instants.now.items
+        others.now mine.old }
 {
     for index in 0..instants.len() {
         let place = circle.place_of(*instants.item(index));

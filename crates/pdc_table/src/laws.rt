@@ -1,6 +1,9 @@
 //! Laws over whole lists of calls, by the definitions that the calls of a table ensure.
-ghost use Rattle.pdc_table.specs.Calls.{BlocksStandInTheirColumns, InstantsCloseOnce, NothingIsPutBelowClosed, RowsComeOutOnce, RowsComeOutRising};
-ghost use Rattle.pdc_table.specs.Histories.{AgesAreTicks, CellsAreFirstPuts, InstantsOpenWhereTaken, RowsCloseWhereDue};
+ghost use Rattle.pdc_table.specs.Calls.{BlocksStandInTheirColumns, InstantsCloseOnce};
+ghost use Rattle.pdc_table.specs.Calls.{NothingIsPutBelowClosed, RowsComeOutOnce};
+ghost use Rattle.pdc_table.specs.Calls.{RowsComeOutRising};
+ghost use Rattle.pdc_table.specs.Histories.{AgesAreTicks, CellsAreFirstPuts};
+ghost use Rattle.pdc_table.specs.Histories.{InstantsOpenWhereTaken, RowsCloseWhereDue};
 
 use pdc_open_row::numbers_rise;
 

@@ -4,19 +4,22 @@
 //! window 8, open 13 14 18     place  0  1  2  3  4  5  6  7
 //!                             row          18       13 14
 //! ```
-ghost use Rattle.std.specs.Prelude.{◌≡◌, ℕ, ◌+◌, ◌%◌, ◌==◌, ◌<◌, ◌≤◌, ◌++◌, [], length, map, nat_lt, replicate, IfOk, slice_set, true, vec_len, if◌then◌else◌, OnErr};
+ghost use Rattle.std.specs.Prelude.{◌≡◌, ◌+◌, ◌%◌, ◌==◌, ◌<◌, ◌≤◌, ◌++◌, [], length, map, nat_lt};
+ghost use Rattle.std.specs.Prelude.{replicate, IfOk, slice_set, true, vec_len, if◌then◌else◌};
+ghost use Rattle.std.specs.Prelude.{OnErr};
 ghost use Rattle.pdc_memory.specs.Asking.{SomeWasRefused};
 ghost use Rattle.std.specs.List.{All, AllByRecursion, list_all, list_any, prefix_len, slice_get};
 ghost use Rattle.std.specs.Vec.{vec_capacity};
-ghost use Rattle.pdc_open_row.specs.pdc_row.CellView.{CellView};
 ghost use Rattle.pdc_open_row.specs.pdc_row.Rising.{AreNear, Rises, highest_of, is_near, place};
 ghost use Rattle.pdc_table.specs.Closing.{counter};
 ghost use Rattle.pdc_open_row.specs.Due.{is_due};
 ghost use Rattle.pdc_open_row.specs.Layout.{layout_view};
-ghost use Rattle.pdc_table.specs.RingRows.{base_row, changed, copied, met_row, row_in, rows_in, with_ages};
+ghost use Rattle.pdc_table.specs.RingRows.{base_row, changed, copied, met_row, row_in, rows_in};
+ghost use Rattle.pdc_table.specs.RingRows.{with_ages};
 ghost use Rattle.pdc_open_row.specs.Views.{OpenRowView, blank_row, without_instant};
 ghost use Rattle.pdc_table.specs.Steps.{disagreements_in, is_first_whole};
-ghost use Rattle.pdc_open_row.specs.Taking.{answer_at, is_taken, with_frame, without_column, without_stream};
+ghost use Rattle.pdc_open_row.specs.Taking.{HaveColumns, answer_at, is_taken, with_frame};
+ghost use Rattle.pdc_open_row.specs.Taking.{without_column, without_stream};
 
 use crate::ages::Ages;
 use crate::circle::Circle;
@@ -42,7 +45,8 @@ pub struct Rows {
 fn new_places(alloc: Global, count: usize, sizes: Places) -> Result<Held<OpenRow>, AllocError>
     requires streams { sizes.streams ≤ MAX_COLUMNS }
     requires columns { sizes.columns ≤ MAX_COLUMNS }
-    ensures items { IfOk result (λ places. places.items ≡ replicate count (blank_row sizes.streams sizes.columns 0)) }
+    ensures items { IfOk result (λ places. places.items ≡
+        replicate count (blank_row sizes.streams sizes.columns 0)) }
     ensures refused { OnErr result SomeWasRefused }
 {
     let mut places = Held::with_capacity(alloc, count)?;
@@ -67,9 +71,11 @@ pub fn is_in_window(rows: &Rows, closed: &HeldQueue<u64>, here: &Circle) -> bool
     requires size { length rows.now.places.items ≡ here.now.window }
     requires rising { Rises 0 (closed.now.items ++ rows.now.open.items) }
     requires held_near { AreNear here.now.window (closed.now.items ++ rows.now.open.items) }
-    requires known { (row_in rows.now.places.items here.now.window here.now.instant).instant ≡ here.now.instant
+    requires known { (row_in rows.now.places.items here.now.window here.now.instant).instant ≡
+        here.now.instant
         → list_any (λ i. i == here.now.instant) rows.now.open.items ≡ true }
-    ensures { result ≡ list_all (is_near here.now.window here.now.instant) (closed.now.items ++ rows.now.open.items) }
+    ensures { result ≡ list_all (is_near here.now.window here.now.instant)
+        (closed.now.items ++ rows.now.open.items) }
 {
     numbers_rise();
     rows.places.item(here.place).instant() == here.instant
@@ -107,8 +113,10 @@ pub fn drop_stream(
 )
     requires size { length places.old.items ≡ circle.now.window }
     requires taken { All (λ (row : OpenRowView). stream < length row.taken) places.old.items }
-    requires column { lanes ≡ 1 → All (λ (row : OpenRowView). stream < length row.columns) places.old.items }
-    ensures items { places.new.items ≡ changed (without_stream lanes stream) circle.now.window open.now places.old.items }
+    requires column { lanes ≡ 1 → All (λ (row : OpenRowView). stream < length row.columns)
+        places.old.items }
+    ensures items { places.new.items ≡
+        changed (without_stream lanes stream) circle.now.window open.now places.old.items }
     ensures capacity { places.new.capacity ≡ places.old.capacity }
 {
     for instant in open {
@@ -121,7 +129,8 @@ pub fn drop_stream(
 pub fn drop_column(places: &mut Held<OpenRow>, circle: &Circle, open: &[u64], column: usize)
     requires size { length places.old.items ≡ circle.now.window }
     requires column { All (λ (row : OpenRowView). column < length row.columns) places.old.items }
-    ensures items { places.new.items ≡ changed (without_column column) circle.now.window open.now places.old.items }
+    ensures items { places.new.items ≡
+        changed (without_column column) circle.now.window open.now places.old.items }
     ensures capacity { places.new.capacity ≡ places.old.capacity }
 {
     for instant in open {
@@ -158,7 +167,8 @@ fn leave_all(places: &mut Held<OpenRow>)
 /// Makes the row of each open instant that of none.
 fn leave_open(places: &mut Held<OpenRow>, circle: &Circle, open: &[u64])
     requires size { length places.old.items ≡ circle.now.window }
-    ensures items { places.new.items ≡ changed without_instant circle.now.window open.now places.old.items }
+    ensures items { places.new.items ≡
+        changed without_instant circle.now.window open.now places.old.items }
     ensures capacity { places.new.capacity ≡ places.old.capacity }
 {
     for instant in open {
@@ -207,7 +217,8 @@ impl Rows {
     pub fn new(alloc: Global, count: usize, sizes: Places) -> Result<Rows, AllocError>
         requires streams { sizes.streams ≤ MAX_COLUMNS }
         requires columns { sizes.columns ≤ MAX_COLUMNS }
-        ensures places { IfOk result (λ rows. rows.places.items ≡ replicate count (blank_row sizes.streams sizes.columns 0)) }
+        ensures places { IfOk result (λ rows. rows.places.items ≡
+            replicate count (blank_row sizes.streams sizes.columns 0)) }
         ensures ages { IfOk result (λ rows. rows.ages.items ≡ replicate count 0) }
         ensures open { IfOk result (λ rows. rows.open.items ≡ []) }
         ensures room { IfOk result (λ rows. count ≤ rows.open.capacity) }
@@ -226,8 +237,10 @@ impl Rows {
         requires places { length other.now.places.items ≡ circle.now.window }
         requires ages { length self.old.ages.items ≡ length other.now.ages.items }
         requires room { length other.now.open.items ≤ self.old.open.capacity }
-        ensures places { self.new.places.items ≡ copied (blank_row 0 0 0) circle.now.window closed.now.items other.now.places.items
-            (copied (blank_row 0 0 0) circle.now.window other.now.open.items other.now.places.items self.old.places.items) }
+        ensures places { self.new.places.items ≡
+            copied (blank_row 0 0 0) circle.now.window closed.now.items other.now.places.items
+            (copied (blank_row 0 0 0) circle.now.window other.now.open.items other.now.places.items
+            self.old.places.items) }
         ensures ages { self.new.ages.items ≡ other.now.ages.items }
         ensures open { self.new.open.items ≡ other.now.open.items }
         ensures ages_capacity { self.new.ages.capacity ≡ self.old.ages.capacity }
@@ -258,20 +271,32 @@ impl Rows {
         requires size { length self.old.places.items ≡ here.now.window }
         requires ages_size { length self.old.ages.items ≡ here.now.window }
         requires rising { Rises 0 self.old.open.items }
-        requires placed { AllByRecursion (λ i. (row_in self.old.places.items here.now.window i).instant ≡ i) self.old.open.items }
-        requires room { ((row_in self.old.places.items here.now.window here.now.instant).instant ≡ here.now.instant → ⊥)
+        requires placed { AllByRecursion (λ i. (row_in self.old.places.items here.now.window
+            i).instant ≡ i) self.old.open.items }
+        requires room { ((row_in self.old.places.items here.now.window here.now.instant).instant ≡
+            here.now.instant → ⊥)
             → length self.old.open.items < self.old.open.capacity }
-        requires stream { stream < length (row_in self.old.places.items here.now.window here.now.instant).taken }
-        requires columns { All (λ (cell : ℕ × CellView). cell.0 < length (row_in self.old.places.items here.now.window here.now.instant).columns) (C.cells blocks.now quality) }
-        ensures answer { result ≡ answer_at (met_row here.now.instant (row_in self.old.places.items here.now.window here.now.instant)) stream lane
-            (C.cells blocks.now quality) }
+        requires stream { stream < length (row_in self.old.places.items here.now.window
+            here.now.instant).taken }
+        requires columns { HaveColumns (C.cells blocks.now quality)
+            (row_in self.old.places.items here.now.window here.now.instant).columns }
+        ensures answer { result ≡ answer_at (met_row here.now.instant
+            (row_in self.old.places.items here.now.window here.now.instant))
+            stream lane (C.cells blocks.now quality) }
         ensures places { self.new.places.items ≡ (if is_taken result
             then slice_set self.old.places.items (here.now.instant % here.now.window)
-            (with_frame stream lane (C.cells blocks.now quality) (base_row here.now.instant (row_in self.old.places.items here.now.window here.now.instant)))
+            (with_frame stream lane (C.cells blocks.now quality)
+            (base_row here.now.instant (row_in self.old.places.items here.now.window
+            here.now.instant)))
             else self.old.places.items) }
-        ensures ages { self.new.ages.items ≡ (if (row_in self.old.places.items here.now.window here.now.instant).instant == here.now.instant
-            then self.old.ages.items else slice_set self.old.ages.items (here.now.instant % here.now.window) 0) }
-        ensures open { self.new.open.items ≡ (if (row_in self.old.places.items here.now.window here.now.instant).instant == here.now.instant
+        ensures ages { self.new.ages.items ≡
+            (if (row_in self.old.places.items here.now.window here.now.instant).instant ==
+            here.now.instant
+            then self.old.ages.items else slice_set self.old.ages.items
+            (here.now.instant % here.now.window) 0) }
+        ensures open { self.new.open.items ≡
+            (if (row_in self.old.places.items here.now.window here.now.instant).instant ==
+            here.now.instant
             then self.old.open.items else place here.now.instant self.old.open.items) }
         ensures ages_capacity { self.new.ages.capacity ≡ self.old.ages.capacity }
         ensures capacity { self.new.places.capacity ≡ self.old.places.capacity }
@@ -291,7 +316,9 @@ impl Rows {
 pub fn count_due(rows: &Rows, circle: &Circle, required: &[bool], rule: WaitRule) -> usize
     requires size { length rows.now.places.items ≡ circle.now.window }
     requires ages_size { length rows.now.ages.items ≡ circle.now.window }
-    ensures count { result ≡ prefix_len (is_due required.now rule) (rows_in (with_ages rows.now.places.items rows.now.ages.items) circle.now.window rows.now.open.items) }
+    ensures count { result ≡ prefix_len (is_due required.now rule)
+        (rows_in (with_ages rows.now.places.items rows.now.ages.items) circle.now.window
+        rows.now.open.items) }
     ensures bound { result ≤ length rows.now.open.items }
 {
     let mut count = 0;
@@ -313,7 +340,9 @@ pub fn count_due(rows: &Rows, circle: &Circle, required: &[bool], rule: WaitRule
 pub fn is_first_whole(rows: &Rows, circle: &Circle, required: &[bool]) -> bool
     requires size { length rows.now.places.items ≡ circle.now.window }
     requires ages_size { length rows.now.ages.items ≡ circle.now.window }
-    ensures { result ≡ is_first_whole required.now (rows_in (with_ages rows.now.places.items rows.now.ages.items) circle.now.window rows.now.open.items) }
+    ensures { result ≡ is_first_whole required.now
+        (rows_in (with_ages rows.now.places.items rows.now.ages.items) circle.now.window
+        rows.now.open.items) }
 {
     match rows.open.as_slice().first() {
         Some(instant) => {
@@ -333,7 +362,9 @@ pub fn count_disagreements(
     so_far: u64,
 ) -> u64
     requires size { length rows.now.places.items ≡ circle.now.window }
-    ensures { result ≡ counter (so_far + disagreements_in (layout_view layout.now) (rows_in rows.now.places.items circle.now.window due.now)) }
+    ensures { result ≡ counter (so_far
+        + disagreements_in (layout_view layout.now)
+        (rows_in rows.now.places.items circle.now.window due.now)) }
 {
     let mut count = so_far;
     for instant in due {

@@ -1,5 +1,6 @@
 //! How the rows of a ring close, and come out: a closed row stays at its place until it is popped.
-ghost use Rattle.std.specs.Prelude.{◌≡◌, ◌+◌, ◌≤◌, ◌++◌, [], drop, false, length, option_map, replicate, IfOk, take, vec_len, OnErr};
+ghost use Rattle.std.specs.Prelude.{◌≡◌, ◌+◌, ◌≤◌, ◌++◌, [], drop, false, length, option_map};
+ghost use Rattle.std.specs.Prelude.{replicate, IfOk, take, vec_len, OnErr};
 ghost use Rattle.pdc_memory.specs.Asking.{SomeWasRefused};
 ghost use Rattle.std.specs.List.{AllByRecursion, slice_get};
 ghost use Rattle.std.specs.Vec.{vec_capacity};
@@ -10,7 +11,8 @@ ghost use Rattle.pdc_table.specs.Closing.{closing, counter, staying};
 ghost use Rattle.pdc_table.specs.KeptRow.{popped_into};
 ghost use Rattle.pdc_open_row.specs.Layout.{layout_view};
 ghost use Rattle.pdc_table.specs.OpenInstants.{instants_of};
-ghost use Rattle.pdc_table.specs.RingRows.{closed_rows, copied, laid, no_layout, row_in, rows_in, with_ages};
+ghost use Rattle.pdc_table.specs.RingRows.{closed_rows, copied, laid, no_layout, row_in, rows_in};
+ghost use Rattle.pdc_table.specs.RingRows.{with_ages};
 ghost use Rattle.pdc_table.specs.Steps.{disagreements_in};
 
 use crate::circle::Circle;
@@ -57,7 +59,8 @@ fn close(
 )
     requires size { length layouts.old.items ≡ circle.now.window }
     requires room { length closed.old.items + length due.now ≤ closed.old.capacity }
-    ensures layouts { layouts.new.items ≡ laid (layout_view layout.now) circle.now.window due.now layouts.old.items }
+    ensures layouts { layouts.new.items ≡
+        laid (layout_view layout.now) circle.now.window due.now layouts.old.items }
     ensures items { closed.new.items ≡ closed.old.items ++ due.now }
     ensures layouts_capacity { layouts.new.capacity ≡ layouts.old.capacity }
     ensures capacity { closed.new.capacity ≡ closed.old.capacity }
@@ -116,7 +119,9 @@ impl Closed {
         requires layouts { length other.now.layouts.items ≡ circle.now.window }
         requires room { length other.now.instants.items ≤ self.old.instants.capacity }
         ensures instants { self.new.instants.items ≡ other.now.instants.items }
-        ensures layouts { self.new.layouts.items ≡ copied no_layout circle.now.window other.now.instants.items other.now.layouts.items self.old.layouts.items }
+        ensures layouts { self.new.layouts.items
+            ≡ copied no_layout circle.now.window other.now.instants.items other.now.layouts.items
+            self.old.layouts.items }
         ensures last { self.new.last ≡ other.now.last }
         ensures disagree { self.new.disagree ≡ other.now.disagree }
         ensures layouts_capacity { self.new.layouts.capacity ≡ self.old.layouts.capacity }
@@ -143,21 +148,40 @@ impl Closed {
         requires ages_size { length rows.now.ages.items ≡ circle.now.window }
         requires layouts_size { length self.old.layouts.items ≡ circle.now.window }
         requires rising { Rises self.old.last rows.now.open.items }
-        requires placed { AllByRecursion (λ i. (row_in (with_ages rows.now.places.items rows.now.ages.items) circle.now.window i).instant ≡ i) rows.now.open.items }
-        requires room { length self.old.instants.items + length rows.now.open.items ≤ self.old.instants.capacity }
-        ensures answer { result ≡ length (closing required.now rule (rows_in (with_ages rows.now.places.items rows.now.ages.items) circle.now.window rows.now.open.items)) }
+        requires placed { AllByRecursion
+            (λ i. (row_in (with_ages rows.now.places.items rows.now.ages.items) circle.now.window
+            i).instant ≡ i) rows.now.open.items }
+        requires room { length self.old.instants.items +
+            length rows.now.open.items ≤ self.old.instants.capacity }
+        ensures answer { result ≡ length (closing required.now rule
+            (rows_in (with_ages rows.now.places.items rows.now.ages.items) circle.now.window
+            rows.now.open.items)) }
         ensures bound { result ≤ length rows.now.open.items }
-        ensures staying { rows_in (with_ages rows.now.places.items rows.now.ages.items) circle.now.window (drop result rows.now.open.items)
-            ≡ staying required.now rule (rows_in (with_ages rows.now.places.items rows.now.ages.items) circle.now.window rows.now.open.items) }
-        ensures layouts { self.new.layouts.items ≡ laid (layout_view layout.now) circle.now.window (take result rows.now.open.items) self.old.layouts.items }
-        ensures closed { self.new.instants.items ≡ self.old.instants.items ++ take result rows.now.open.items }
-        ensures due_rows { rows_in (with_ages rows.now.places.items rows.now.ages.items) circle.now.window (take result rows.now.open.items)
-            ≡ closing required.now rule (rows_in (with_ages rows.now.places.items rows.now.ages.items) circle.now.window rows.now.open.items) }
+        ensures staying { rows_in (with_ages rows.now.places.items rows.now.ages.items)
+            circle.now.window (drop result rows.now.open.items)
+            ≡ staying required.now rule
+            (rows_in (with_ages rows.now.places.items rows.now.ages.items) circle.now.window
+            rows.now.open.items) }
+        ensures layouts { self.new.layouts.items
+            ≡ laid (layout_view layout.now) circle.now.window (take result rows.now.open.items)
+            self.old.layouts.items }
+        ensures closed { self.new.instants.items ≡ self.old.instants.items ++
+            take result rows.now.open.items }
+        ensures due_rows { rows_in (with_ages rows.now.places.items rows.now.ages.items)
+            circle.now.window (take result rows.now.open.items)
+            ≡ closing required.now rule
+            (rows_in (with_ages rows.now.places.items rows.now.ages.items) circle.now.window
+            rows.now.open.items) }
         ensures front { self.new.last ≡ greatest self.old.last (take result rows.now.open.items) }
         ensures last { self.new.last ≡ greatest self.old.last
-            (instants_of (closing required.now rule (rows_in (with_ages rows.now.places.items rows.now.ages.items) circle.now.window rows.now.open.items))) }
-        ensures disagree { self.new.disagree ≡ counter (self.old.disagree + disagreements_in (layout_view layout.now)
-            (closing required.now rule (rows_in (with_ages rows.now.places.items rows.now.ages.items) circle.now.window rows.now.open.items))) }
+            (instants_of (closing required.now rule
+            (rows_in (with_ages rows.now.places.items rows.now.ages.items) circle.now.window
+            rows.now.open.items))) }
+        ensures disagree { self.new.disagree ≡
+            counter (self.old.disagree + disagreements_in (layout_view layout.now)
+            (closing required.now rule
+            (rows_in (with_ages rows.now.places.items rows.now.ages.items) circle.now.window
+            rows.now.open.items))) }
         ensures layouts_capacity { self.new.layouts.capacity ≡ self.old.layouts.capacity }
         ensures capacity { self.new.instants.capacity ≡ self.old.instants.capacity }
     {
@@ -187,7 +211,9 @@ pub fn pop(
 ) -> Option<DueRow>
     requires size { length rows.now.places.items ≡ circle.now.window }
     requires layouts_size { length layouts.now ≡ circle.now.window }
-    ensures row { option_map row_view result ≡ slice_get (closed_rows rows.now.places.items layouts.now circle.now.window closed.old.items) 0 }
+    ensures row { option_map row_view result
+        ≡ slice_get (closed_rows rows.now.places.items layouts.now circle.now.window
+        closed.old.items) 0 }
     ensures rest { closed.new.items ≡ drop 1 closed.old.items }
     ensures capacity { closed.new.capacity ≡ closed.old.capacity }
 {
@@ -216,7 +242,9 @@ pub fn pop_into(
 ) -> bool
     requires size { length rows.now.places.items ≡ circle.now.window }
     requires layouts_size { length layouts.now ≡ circle.now.window }
-    ensures row { popped_into result row.new ≡ slice_get (closed_rows rows.now.places.items layouts.now circle.now.window closed.old.items) 0 }
+    ensures row { popped_into result row.new
+        ≡ slice_get (closed_rows rows.now.places.items layouts.now circle.now.window
+        closed.old.items) 0 }
     ensures none { result ≡ false → row.new ≡ row.old }
     ensures rest { closed.new.items ≡ drop 1 closed.old.items }
     ensures capacity { closed.new.capacity ≡ closed.old.capacity }

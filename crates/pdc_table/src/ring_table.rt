@@ -50,8 +50,10 @@ impl RingTable {
         quality: u8,
     ) -> PutOutcome
         requires { IsPut self.old.content stream (C.cells blocks.now quality) }
-        ensures answer { result ≡ put_answer self.old.content stream instant (C.cells blocks.now quality) }
-        ensures content { self.new.content ≡ after_put self.old.content stream instant (C.cells blocks.now quality) }
+        ensures answer { result ≡ put_answer self.old.content stream instant
+            (C.cells blocks.now quality) }
+        ensures content { self.new.content ≡
+            after_put self.old.content stream instant (C.cells blocks.now quality) }
         ensures disagreements { self.new.disagreements ≡ self.old.disagreements }
         ensures sizes { HasSizesOf self.old.content self.new.content }
         ensures memory { self.new.memory ≡ self.old.memory }

@@ -1,14 +1,19 @@
 //! What every table promises, however it is kept.
-ghost use Rattle.std.specs.Prelude.{◌≡◌, ℕ, ◌<◌, ◌≤◌, false, List, length, map, IfOk, option_map, OnErr};
+ghost use Rattle.std.specs.Prelude.{◌≡◌, ℕ, ◌<◌, ◌≤◌, false, List, length, map, IfOk, option_map};
+ghost use Rattle.std.specs.Prelude.{OnErr};
 ghost use Rattle.pdc_memory.specs.Asking.{SomeWasRefused};
 ghost use Rattle.std.specs.List.{AllByRecursion};
 ghost use Rattle.pdc_open_row.specs.pdc_row.RowView.{RowView, row_view};
 ghost use Rattle.pdc_open_row.specs.pdc_block.Block.{words_in};
-ghost use Rattle.pdc_table.specs.Content.{Content, HasSizesOf, HaveLayoutShapes, IsContent, IsPut, new_content, streams_of};
+ghost use Rattle.pdc_table.specs.Content.{Content, HasSizesOf, HaveLayoutShapes, IsContent};
+ghost use Rattle.pdc_table.specs.Content.{IsPut, new_content, streams_of};
 ghost use Rattle.pdc_table.specs.KeptRow.{popped_into};
 ghost use Rattle.pdc_open_row.specs.Layout.{layout_view};
 ghost use Rattle.pdc_open_row.specs.Parts.{cut_cells, parts_len};
-ghost use Rattle.pdc_table.specs.Steps.{after_drop_column, after_drop_stream, after_pop, after_put, after_require, after_tick, closed_by, disagreements_after, next_answer, pop_answer, put_answer, shape_of, shapes_given, tick_answer, whole_answer};
+ghost use Rattle.pdc_table.specs.Steps.{after_drop_column, after_drop_stream, after_pop};
+ghost use Rattle.pdc_table.specs.Steps.{after_put, after_require, after_tick, closed_by};
+ghost use Rattle.pdc_table.specs.Steps.{disagreements_after, next_answer, pop_answer, put_answer};
+ghost use Rattle.pdc_table.specs.Steps.{shape_of, shapes_given, tick_answer, whole_answer};
 ghost use Rattle.pdc_open_row.specs.Taking.{body_cells_of, cells_of};
 
 use crate::{MAX_COLUMNS, MAX_LANES, MAX_WINDOW, MIN_WINDOW, PutOutcome, RowLayout, WaitRule};
@@ -51,7 +56,8 @@ pub trait Table: Drop {
         requires columns_most { columns ≤ MAX_COLUMNS }
         requires lanes_least { 1 ≤ lanes }
         requires lanes_most { lanes ≤ MAX_LANES }
-        ensures content { IfOk result (λ table. content table ≡ new_content window columns lanes floor) }
+        ensures content { IfOk result (λ table. content table ≡
+            new_content window columns lanes floor) }
         ensures well_formed { IfOk result (λ table. IsContent (content table)) }
         ensures disagreements { IfOk result (λ table. disagreements table ≡ 0) }
         ensures refused { OnErr result SomeWasRefused };
@@ -67,8 +73,10 @@ pub trait Table: Drop {
         quality: u8,
     ) -> PutOutcome
         requires { IsPut (content self.old) stream (cells_of cells.now quality) }
-        ensures answer { result ≡ put_answer (content self.old) stream instant (cells_of cells.now quality) }
-        ensures content { content self.new ≡ after_put (content self.old) stream instant (cells_of cells.now quality) }
+        ensures answer { result ≡ put_answer (content self.old) stream instant
+            (cells_of cells.now quality) }
+        ensures content { content self.new ≡
+            after_put (content self.old) stream instant (cells_of cells.now quality) }
         ensures disagreements { disagreements self.new ≡ disagreements self.old }
         ensures sizes { HasSizesOf (content self.old) (content self.new) }
         ensures memory { memory self.new ≡ memory self.old }
@@ -83,8 +91,10 @@ pub trait Table: Drop {
         quality: u8,
     ) -> PutOutcome
         requires { IsPut (content self.old) stream (body_cells_of cells.now quality) }
-        ensures answer { result ≡ put_answer (content self.old) stream instant (body_cells_of cells.now quality) }
-        ensures content { content self.new ≡ after_put (content self.old) stream instant (body_cells_of cells.now quality) }
+        ensures answer { result ≡ put_answer (content self.old) stream instant
+            (body_cells_of cells.now quality) }
+        ensures content { content self.new ≡
+            after_put (content self.old) stream instant (body_cells_of cells.now quality) }
         ensures disagreements { disagreements self.new ≡ disagreements self.old }
         ensures sizes { HasSizesOf (content self.old) (content self.new) }
         ensures memory { memory self.new ≡ memory self.old }
@@ -99,11 +109,14 @@ pub trait Table: Drop {
         bytes: &[u8],
         quality: u8,
     ) -> PutOutcome
-        requires put { IsPut (content self.old) stream (cut_cells P.column_of P.shape_of parts.now quality (words_in bytes.now)) }
+        requires put { IsPut (content self.old) stream
+            (cut_cells P.column_of P.shape_of parts.now quality (words_in bytes.now)) }
         requires size { length bytes.now ≡ parts_len P.shape_of parts.now }
         requires few { length parts.now ≤ MAX_COLUMNS }
-        ensures answer { result ≡ put_answer (content self.old) stream instant (cut_cells P.column_of P.shape_of parts.now quality (words_in bytes.now)) }
-        ensures content { content self.new ≡ after_put (content self.old) stream instant (cut_cells P.column_of P.shape_of parts.now quality (words_in bytes.now)) }
+        ensures answer { result ≡ put_answer (content self.old) stream instant
+            (cut_cells P.column_of P.shape_of parts.now quality (words_in bytes.now)) }
+        ensures content { content self.new ≡ after_put (content self.old) stream instant
+            (cut_cells P.column_of P.shape_of parts.now quality (words_in bytes.now)) }
         ensures disagreements { disagreements self.new ≡ disagreements self.old }
         ensures sizes { HasSizesOf (content self.old) (content self.new) }
         ensures memory { memory self.new ≡ memory self.old }
@@ -137,12 +150,15 @@ pub trait Table: Drop {
     /// Where the cells of the open instants have the shapes of the layout, so have the blocks of the rows that close.
     fn tick(&mut self, rule: WaitRule, layout: &RowLayout) -> u32
         ensures answer { result ≡ tick_answer (content self.old) rule }
-        ensures content { content self.new ≡ after_tick (content self.old) rule (layout_view layout.now) }
+        ensures content { content self.new ≡
+            after_tick (content self.old) rule (layout_view layout.now) }
         ensures shapes { HaveLayoutShapes (content self.old) (layout_view layout.now) →
-            AllByRecursion (λ (row : RowView). map shape_of row.blocks ≡ shapes_given (layout_view layout.now).shapes)
+            AllByRecursion (λ (row : RowView). map shape_of row.blocks ≡
+            shapes_given (layout_view layout.now).shapes)
             (closed_by (content self.old) rule (layout_view layout.now)) }
         ensures disagreements { disagreements self.new
-            ≡ disagreements_after (disagreements self.old) (content self.old) rule (layout_view layout.now) }
+            ≡ disagreements_after (disagreements self.old) (content self.old) rule
+            (layout_view layout.now) }
         ensures sizes { HasSizesOf (content self.old) (content self.new) }
         ensures memory { memory self.new ≡ memory self.old }
         ensures well_formed { IsContent (content self.new) };

@@ -28,7 +28,7 @@ pub use pdc_pipe::{
     CAPACITY, Ended, InOrder, LayoutFrame, Log, Message, Outlet, Receiver, Sender, send_out,
 };
 pub use pdc_ports::{
-    Counts, Did, MemorySink, Next, Numbered, Outcome, Sink, SinkFault, Source, Ticker, Told,
+    Counts, Did, MemorySink, Next, Numbered, Outcome, Progress, Sink, SinkFault, Source, Ticker,
 };
 pub use receivers::{Counted, Input};
 pub use runs::run;

@@ -6,7 +6,8 @@ ghost use Rattle.pdc_hub.specs.Faults.{IsOfReceiver};
 ghost use Rattle.pdc_threads.specs.Ended.{AreFor, HasEndedAs, or_else};
 ghost use Rattle.pdc_threads.specs.Served.{AllJoined, HasServed, IsPlaceAt};
 ghost use Rattle.pdc_threads.specs.Run.{AreSumsOf};
-ghost use Rattle.pdc_threads.specs.Shares.{AreMoreThan, AreParts, AreWholeBut, HasAmountsOf, HasPartsOf, LeaveOne};
+ghost use Rattle.pdc_threads.specs.Shares.{AreMoreThan, AreParts, AreWholeBut, HasAmountsOf};
+ghost use Rattle.pdc_threads.specs.Shares.{HasPartsOf, LeaveOne};
 ghost use Rattle.pdc_hub.specs.pdc_memory.Asking.{SomeWasRefused};
 ghost use Rattle.pdc_threads.specs.Wanted.{LackedRoom};
 
@@ -104,7 +105,8 @@ where
     requires parts { AreParts (vec_len inputs + 1) shares.old }
     requires amounts { HaveCountedNone shares.old }
     ensures complete { result.complete ≡ true →
-        HaveCountedNone shares.new × AreParts 1 shares.new × (vec_len result.running ≡ vec_len inputs) }
+        HaveCountedNone shares.new × AreParts 1 shares.new
+        × (vec_len result.running ≡ vec_len inputs) }
     ensures lacked { result.complete ≡ false → LackedRoom }
     ensures placed { AreFor (λ source stream handle.
         (handle.promise.source.value ≡ source) × (handle.promise.stream ≡ stream)) 0

@@ -1,5 +1,6 @@
 //! What a run counted, and which fault it tells of.
-ghost use Rattle.std.specs.Prelude.{◌≡◌, IfErr, IfOk, IfSome, IsErrOf, Ok, OnOk, false, true, vec_len};
+ghost use Rattle.std.specs.Prelude.{◌≡◌, IfErr, IfOk, IfSome, IsErrOf, Ok, OnOk, false, true};
+ghost use Rattle.std.specs.Prelude.{vec_len};
 ghost use Rattle.pdc_aligner.specs.Device.{IsOfAligner};
 ghost use mathlib.Core.List.{IsPrefix};
 ghost use Rattle.pdc_hub.specs.Counted.{AreAllParts, HasSameAmounts, HasSameParts, sum_of};

@@ -1,5 +1,6 @@
 //! When ticks are due.
-ghost use Rattle.std.specs.Prelude.{◌≡◌, ◌+◌, ◌-◌, ◌*◌, ◌/◌, ◌^◌, ◌≤◌, ◌<◌, ◌↔◌, IsTrue, Some, min, if◌then◌else◌};
+ghost use Rattle.std.specs.Prelude.{◌≡◌, ◌+◌, ◌-◌, ◌*◌, ◌/◌, ◌^◌, ◌≤◌, ◌<◌, ◌↔◌, IsTrue, Some};
+ghost use Rattle.std.specs.Prelude.{min, if◌then◌else◌};
 ghost use Rattle.pdc_ticking.specs.declared.deadlines.TheConstants.{NANOSECONDS};
 ghost use Rattle.pdc_ticking.specs.Deadlines.{IsNextDeadline};
 ghost use Rattle.pdc_ticking.specs.Waiting.{IsEarly, IsWaiting, leaves};
@@ -60,7 +61,8 @@ impl Deadlines {
 
     /// How many nanoseconds it is from a moment to the first deadline above it. One that was missed is left out so.
     pub fn wait_at(&self, moment: u64) -> u64
-        ensures { IsNextDeadline (first_of self.now) (span_of self.now) (parts_of self.now) moment (moment + result) }
+        ensures { IsNextDeadline (first_of self.now) (span_of self.now) (parts_of self.now) moment
+            (moment + result) }
     {
         if moment < self.first {
             return self.first - moment;
@@ -73,7 +75,8 @@ impl Deadlines {
 
     /// Whether the tick of the deadline `given` was given before it: it lies above the moment, no later than the second deadline above it.
     fn is_early(&self, moment: u64, given: u64) -> bool
-        ensures { IsTrue result ↔ IsEarly (first_of self.now) (span_of self.now) (parts_of self.now) moment given }
+        ensures { IsTrue result ↔ IsEarly (first_of self.now) (span_of self.now)
+            (parts_of self.now) moment given }
     {
         if given <= moment {
             return false;
@@ -89,7 +92,8 @@ impl Deadlines {
     /// How a ticker waits at a moment that may be woken before its deadline, where the last tick that it gave was that of the deadline
     /// `given`: so it gives one tick between two deadlines, and a clock that was set back a little changes nothing of that.
     pub fn waiting_at(&self, moment: u64, given: u64) -> Waiting
-        ensures { IsWaiting (first_of self.now) (span_of self.now) (parts_of self.now) moment given result }
+        ensures { IsWaiting (first_of self.now) (span_of self.now) (parts_of self.now) moment given
+            result }
     {
         if self.is_early(moment, given) {
             Waiting::Sleep(given - moment)
@@ -102,7 +106,8 @@ impl Deadlines {
     /// length from a deadline to the next later; and ticks come at calls again, where they came behind them. Each call since then
     /// would have waited ten times as long together, had all been as late as this one.
     pub fn leaves(&self, found: Found, left: Option<u64>) -> bool
-        ensures { result ≡ leaves (span_of self.now / parts_of self.now) found.moment found.late left }
+        ensures { result ≡ leaves (span_of self.now / parts_of self.now) found.moment found.late
+            left }
     {
         let Some(left) = left else {
             return found.late >= 1;

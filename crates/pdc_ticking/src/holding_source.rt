@@ -30,7 +30,8 @@ impl<'a> Patience<'a> {
     /// Which now is waited for after a tick with this now: the least that takes these bytes as data, where the tick would refuse them as
     /// ahead. None where they are no data of an instant, or are not ahead.
     pub fn awaited(&self, bytes: &[u8], last: u64) -> Option<u64>
-        ensures { result ≡ awaited self.now.tags.rate self.now.tags.time_base self.now.ahead bytes.now last }
+        ensures { result ≡ awaited self.now.tags.rate self.now.tags.time_base self.now.ahead
+            bytes.now last }
     {
         let instant = self.tags.instant_of_data(bytes)?;
         let least = instant.saturating_sub(self.ahead);

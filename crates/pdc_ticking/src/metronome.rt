@@ -13,8 +13,10 @@ pub trait Timepiece {
 
     /// The time at the next deadline, which it waits for; none where it cannot be read.
     fn at_next_deadline(&mut self) -> Option<u128>
-        ensures some { IfSome result (λ time. (times : List ℕ) → showed self.old times → showed self.new (times ++ time ∷ [])) }
-        ensures none { IfNone result ((times : List ℕ) → showed self.old times → showed self.new times) };
+        ensures some { IfSome result (λ time. (times : List ℕ) → showed self.old times →
+            showed self.new (times ++ time ∷ [])) }
+        ensures none { IfNone result ((times : List ℕ) → showed self.old times →
+            showed self.new times) };
 }
 
 /// Deadlines by one of the system's clocks.

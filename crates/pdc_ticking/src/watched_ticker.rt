@@ -6,7 +6,7 @@ ghost use Rattle.pdc_ticking.specs.Ticks.{time_since};
 
 use crate::last_tick::LastTick;
 use pdc_journal::{Journal, Moment};
-use pdc_ports::{Did, Ticker, Told};
+use pdc_ports::{Did, Progress, Ticker};
 use std::alloc::Global;
 use std::rt::Clock;
 use std::sync::Wait;
@@ -156,7 +156,7 @@ impl<'a, K: Ticker + Drop, R: Wait + Clock> Ticker for WatchedTicker<'a, K, R> {
         self.inner.wants_counts()
     }
 
-    fn tell(&mut self, told: &Told) {
+    fn tell(&mut self, told: &Progress) {
         self.inner.tell(told);
     }
 }

@@ -58,7 +58,8 @@ impl<'a, R: Wait + Clock> WokenTimepiece<'a, R> {
 
     /// How it waits now; none where the clock cannot be read.
     fn waiting(&self) -> Option<(u64, Waiting)>
-        ensures { IfSome result (λ found. WaitsBy self.now.pace.deadlines found.0 self.now.given.deadline found.1) }
+        ensures { IfSome result (λ found. WaitsBy self.now.pace.deadlines found.0
+            self.now.given.deadline found.1) }
     {
         let moment = self.pace.moment()?;
         let waiting = self.pace.deadlines.waiting_at(moment, self.given.deadline);
@@ -88,7 +89,8 @@ impl<'a, R: Wait + Clock> WokenTimepiece<'a, R> {
     /// Waits up to the deadline whose tick was given early, if it was. What it found then; none where the clock cannot be read, or does not go
     /// on.
     fn behind_given(&self) -> Option<Found>
-        ensures { IfSome result (λ found. IsFound self.now.pace.deadlines self.now.given.deadline found) }
+        ensures { IfSome result (λ found. IsFound self.now.pace.deadlines self.now.given.deadline
+            found) }
     {
         let mut called = None;
         for _ in 0..MOST_SLEEPS {
@@ -107,8 +109,10 @@ impl<'a, R: Wait + Clock> WokenTimepiece<'a, R> {
 
     /// Waits until the next tick is due. What was found, by which it is noted; none where the clock cannot be read, or does not go on.
     fn wait_for_tick(&mut self) -> Option<Found>
-        ensures some { IfSome result (λ found. IsFound self.old.pace.deadlines self.old.given.deadline found) }
-        ensures noted { IfSome result (λ found. IsNoted self.old.pace.deadlines found self.old.given self.new.given) }
+        ensures some { IfSome result (λ found. IsFound self.old.pace.deadlines
+            self.old.given.deadline found) }
+        ensures noted { IfSome result (λ found. IsNoted self.old.pace.deadlines found
+            self.old.given self.new.given) }
         ensures later { IfSome result (λ found. IsLater found self.old.given self.new.given) }
         ensures none { IfNone result (self.new.given ≡ self.old.given) }
         ensures same { self.new.pace ≡ self.old.pace }

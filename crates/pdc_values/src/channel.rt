@@ -84,8 +84,10 @@ fn units_place(shape: Shape) -> usize
 
 /// The nominal frequency in hertz: bit 0 of FNOM (C37.118.2-2011, table 9).
 pub fn nominal_frequency(section: &SectionView) -> u16
-    ensures fifty { word_at section.now.bytes.now (length section.now.bytes.now - 4) % 2 ≡ 1 → result ≡ 50 }
-    ensures sixty { word_at section.now.bytes.now (length section.now.bytes.now - 4) % 2 ≡ 0 → result ≡ 60 }
+    ensures fifty { word_at section.now.bytes.now (length section.now.bytes.now - 4) % 2 ≡ 1 →
+        result ≡ 50 }
+    ensures sixty { word_at section.now.bytes.now (length section.now.bytes.now - 4) % 2 ≡ 0 →
+        result ≡ 60 }
 {
     if read_word(section.bytes, section.bytes.len() - 4) % 2 == 1 {
         50

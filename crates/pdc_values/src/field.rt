@@ -83,7 +83,8 @@ fn second(phasor: Phasor, words: &[u16]) -> u16
 /// Appends the magnitude in volts or amperes.
 fn append_magnitude(phasor: Phasor, words: &[u16], out: &mut Vec<u8>) -> Result<(), AllocError>
     ensures { phasor.polar ≡ true
-        → OnOk result (out.new.items ≡ out.old.items ++ scaled_text 100000 (magnitude_of (word_of words.now phasor.place) phasor.factor)) }
+        → OnOk result (out.new.items ≡ out.old.items ++
+        scaled_text 100000 (magnitude_of (word_of words.now phasor.place) phasor.factor)) }
 {
     let (a, b) = (first(phasor, words), second(phasor, words));
     if phasor.polar {
@@ -96,7 +97,8 @@ fn append_magnitude(phasor: Phasor, words: &[u16], out: &mut Vec<u8>) -> Result<
 /// Appends the angle in radians.
 fn append_angle(phasor: Phasor, words: &[u16], out: &mut Vec<u8>) -> Result<(), AllocError>
     ensures { phasor.polar ≡ true
-        → OnOk result (out.new.items ≡ out.old.items ++ scaled_text 10000 (signed_of (word_of words.now (phasor.place + 1)))) }
+        → OnOk result (out.new.items ≡ out.old.items ++
+        scaled_text 10000 (signed_of (word_of words.now (phasor.place + 1)))) }
 {
     let (a, b) = (first(phasor, words), second(phasor, words));
     if phasor.polar {
@@ -109,7 +111,8 @@ fn append_angle(phasor: Phasor, words: &[u16], out: &mut Vec<u8>) -> Result<(), 
 /// Appends the real part in volts or amperes.
 fn append_real(phasor: Phasor, words: &[u16], out: &mut Vec<u8>) -> Result<(), AllocError>
     ensures { phasor.polar ≡ false
-        → OnOk result (out.new.items ≡ out.old.items ++ scaled_text 100000 (part_of (word_of words.now phasor.place) phasor.factor)) }
+        → OnOk result (out.new.items ≡ out.old.items ++
+        scaled_text 100000 (part_of (word_of words.now phasor.place) phasor.factor)) }
 {
     let (a, b) = (first(phasor, words), second(phasor, words));
     if phasor.polar {
@@ -122,7 +125,8 @@ fn append_real(phasor: Phasor, words: &[u16], out: &mut Vec<u8>) -> Result<(), A
 /// Appends the imaginary part in volts or amperes.
 fn append_imaginary(phasor: Phasor, words: &[u16], out: &mut Vec<u8>) -> Result<(), AllocError>
     ensures { phasor.polar ≡ false
-        → OnOk result (out.new.items ≡ out.old.items ++ scaled_text 100000 (part_of (word_of words.now (phasor.place + 1)) phasor.factor)) }
+        → OnOk result (out.new.items ≡ out.old.items ++
+        scaled_text 100000 (part_of (word_of words.now (phasor.place + 1)) phasor.factor)) }
 {
     let (a, b) = (first(phasor, words), second(phasor, words));
     if phasor.polar {
@@ -150,7 +154,8 @@ impl Field {
     /// [`AllocError`] where there is no room and none is got.
     pub fn append(self, words: &[u16], out: &mut Vec<u8>) -> Result<(), AllocError>
         // Where its number is a word times its factor, it is written with all its digits.
-        ensures exact { (text : List ℕ) → exact_text self words.now ≡ Some text → OnOk result (out.new.items ≡ out.old.items ++ text) }
+        ensures exact { (text : List ℕ) → exact_text self words.now ≡ Some text →
+            OnOk result (out.new.items ≡ out.old.items ++ text) }
     {
         match self {
             Field::Nothing => Ok(()),

@@ -1,6 +1,7 @@
 //! What the words of a block stand for.
 ghost use Rattle.std.specs.Prelude.{◌≡◌, ◌<◌, ◌≤◌, ◌^◌, ◌%◌, ◌+ℤ◌, pos, unsigned_abs};
-ghost use Rattle.pdc_values.specs.Quantity.{part_of, magnitude_of, frequency_of, analog_of, signed_of};
+ghost use Rattle.pdc_values.specs.Quantity.{part_of, magnitude_of, frequency_of, analog_of};
+ghost use Rattle.pdc_values.specs.Quantity.{signed_of};
 ghost use Rattle.pdc_values.specs.declared.quantity.TheConstants.{MAX_FACTOR};
 
 use std::num::saturating_f64_to_i64;

@@ -118,7 +118,8 @@ impl Heard {
 
     /// Whether it lives: a data frame came, and the last one is not old.
     pub fn is_alive(&self, rate: u32, now: Now) -> bool
-        ensures { IsTrue result ↔ (0 < self.now.frames) × (IsOld self.now.came_steady_ms now.steady_ms rate → ⊥) }
+        ensures { IsTrue result ↔ (0 < self.now.frames)
+            × (IsOld self.now.came_steady_ms now.steady_ms rate → ⊥) }
     {
         self.frames > 0 && !is_old(self.came_steady_ms, now.steady_ms, rate)
     }

@@ -51,7 +51,7 @@ pub use pmu::Pmu;
 pub use presence::{Presence, TENTHS};
 pub use present::{PresentBlock, all_agree};
 pub use published::{MOST_FRAMES, Published, PublishedFrame};
-pub use route::{Asked, route_of};
+pub use route::{Resource, route_of};
 pub use scaling::{MAX_SCALE, is_current, scale_of, scaled_magnitude, scaled_part};
 pub use script::SCRIPT;
 pub use showing::json_of;

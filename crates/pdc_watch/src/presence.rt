@@ -56,7 +56,8 @@ impl Presence {
 
     /// Counts a frame of this tenth, with the PMU's STAT. It takes no memory.
     pub fn note(&mut self, tenth: u64, stat: u16)
-        ensures value { self.new ≡ slice_set self.old (tenth % 256) (noted (slot_in self.old tenth) tenth stat) }
+        ensures value { self.new ≡ slice_set self.old (tenth % 256)
+            (noted (slot_in self.old tenth) tenth stat) }
         ensures size { length self.new ≡ TENTHS }
     {
         let slot = self.slot(tenth).noted(tenth, stat);

@@ -71,7 +71,8 @@ impl Published {
 
     /// Takes out the frame of this instant, if there is one.
     pub fn take(&mut self, instant: u64) -> Option<PublishedFrame>
-        ensures some { IfSome result (λ frame. Contains self.old frame × (frame.instant ≡ instant)) }
+        ensures some { IfSome result (λ frame. Contains self.old frame
+            × (frame.instant ≡ instant)) }
         ensures none { IfNone result (All (λ frame. frame.instant ≡ instant → ⊥) self.old) }
         ensures size { length self.new ≤ length self.old }
     {

@@ -99,8 +99,11 @@ fn compare_with(
     others: &mut Published,
     frame: PublishedFrame,
 ) -> Result<Option<bool>, AllocError>
-    ensures equal { IfOk result (λ answer. IfSome answer (λ is_equal. (other : FrameData) × Contains others.old other × (other.instant ≡ frame.instant) × (IsTrue is_equal ↔ AllAgree frame.blocks.items other.blocks.items))) }
-    ensures none { IfOk result (λ answer. IfNone answer (All (λ other. other.instant ≡ frame.instant → ⊥) others.old)) }
+    ensures equal { IfOk result (λ answer. IfSome answer (λ is_equal. (other : FrameData)
+        × Contains others.old other × (other.instant ≡ frame.instant)
+        × (IsTrue is_equal ↔ AllAgree frame.blocks.items other.blocks.items))) }
+    ensures none { IfOk result (λ answer. IfNone answer (All (λ other. other.instant ≡
+        frame.instant → ⊥) others.old)) }
 {
     match others.take(frame.instant) {
         Some(other) => Ok(Some(frame.agrees(&other))),

@@ -5,7 +5,9 @@ ghost use Rattle.pdc_watch.specs.declared.cell.TheConstants.{MAX_RATE};
 use crate::words::WatchCommand;
 use pdc_frame::StreamId;
 use pdc_life::Timing;
-use pdc_settings::{MergerSettings, Mistake, Network, NodeSettings, SettingsFault, mistake_in};
+use pdc_settings::{
+    Document, MergerSettings, Mistake, Network, NodeSettings, SettingsFault, mistake_in,
+};
 use pdc_watch::{MAX_RATE, Three};
 use std::alloc::Global;
 use std::fs::File;
@@ -70,8 +72,9 @@ fn metrics_of(to: SocketAddr, metrics_port: Option<u16>) -> Option<u16> {
 
 /// The session of the node that this text describes.
 fn node_session(alloc: Global, text: &str) -> Result<Session, SettingsFault> {
-    let settings = NodeSettings::from_toml(alloc, text)?;
-    let network = Network::from_toml(alloc, text)?;
+    let document = Document::parse(alloc, text)?;
+    let settings = NodeSettings::from_document(&document)?;
+    let network = Network::from_document(alloc, &document)?;
     let to = reached(network.address, settings.service.session_port);
     Ok(Session {
         id: settings.life.output.id,
@@ -84,8 +87,9 @@ fn node_session(alloc: Global, text: &str) -> Result<Session, SettingsFault> {
 
 /// The session of the merger that this text describes.
 fn merger_session(alloc: Global, text: &str) -> Result<Session, SettingsFault> {
-    let settings = MergerSettings::from_toml(alloc, text)?;
-    let network = Network::from_toml(alloc, text)?;
+    let document = Document::parse(alloc, text)?;
+    let settings = MergerSettings::from_document(&document)?;
+    let network = Network::from_document(alloc, &document)?;
     let to = reached(network.address, settings.service.session_port);
     Ok(Session {
         id: settings.life.output.id,

@@ -6,7 +6,7 @@ use bytes::Bytes;
 use http::{HeaderValue, Request, StatusCode, header};
 use http_server::{Response, Service};
 use pdc_metrics::is_own_request;
-use pdc_watch::{Asked, Origin, PAGE, SCRIPT, STYLE, Three, Watch, json_of, route_of};
+use pdc_watch::{Origin, PAGE, Resource, SCRIPT, STYLE, Three, Watch, json_of, route_of};
 use std::alloc::{AllocError, Global};
 use std::rt::Clock;
 use std::sync::{Mutex, Wait};
@@ -81,26 +81,26 @@ impl<R: Wait + Clock> Service for Site<'_, R> {
             return misdirect(response);
         }
         match route_of(request.method().as_str(), request.uri().path()) {
-            Asked::Page => fill(
+            Resource::Page => fill(
                 response,
                 HeaderValue::from_static("text/html; charset=utf-8"),
                 Bytes::from_static(PAGE.as_bytes()),
             ),
-            Asked::Style => fill(
+            Resource::Style => fill(
                 response,
                 HeaderValue::from_static("text/css; charset=utf-8"),
                 Bytes::from_static(STYLE.as_bytes()),
             ),
-            Asked::Script => fill(
+            Resource::Script => fill(
                 response,
                 HeaderValue::from_static("text/javascript; charset=utf-8"),
                 Bytes::from_static(SCRIPT.as_bytes()),
             ),
-            Asked::Data => {
+            Resource::Data => {
                 let body = self.data()?;
                 fill(response, HeaderValue::from_static("application/json"), body)
             }
-            Asked::Unknown => {
+            Resource::Unknown => {
                 response.status = StatusCode::NOT_FOUND;
                 fill(
                     response,
@@ -108,7 +108,7 @@ impl<R: Wait + Clock> Service for Site<'_, R> {
                     Bytes::from_static(b"not found\n"),
                 )
             }
-            Asked::WrongMethod => {
+            Resource::WrongMethod => {
                 response.status = StatusCode::METHOD_NOT_ALLOWED;
                 response.add_header(header::ALLOW, HeaderValue::from_static("GET, HEAD"))
             }

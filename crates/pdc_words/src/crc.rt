@@ -4,7 +4,8 @@
 //! terms, so the generator's fourth power has four terms as the generator itself, and its eighth and sixteenth power too. A
 //! state of as many bits as such a power has is moved up by them, and reduced again, with a few shifts.
 ghost use Rattle.std.specs.Prelude.{◌≡◌, ◌+◌, ◌*◌, ◌^◌, ◌≤◌, ◌<◌, ℕ, fold, length, take, drop};
-ghost use Rattle.pdc_words.specs.CheckWord.{IsCheckWord, IsCongruent, IsRemainder, check_after, check_word_of, high_of_product, polynomial_of};
+ghost use Rattle.pdc_words.specs.CheckWord.{IsCheckWord, IsCongruent, IsRemainder, check_after};
+ghost use Rattle.pdc_words.specs.CheckWord.{check_word_of, high_of_product, polynomial_of};
 
 use crate::lanes::after_blocks;
 
@@ -88,7 +89,8 @@ pub(crate) fn wide_moved_up(state: u128) -> u128
 /// x^256 + x^192 + x^80 + 1.
 #[inline(always)]
 fn long_moved_up(high: u128, low: u128) -> (u128, u128)
-    ensures congruent { IsCongruent ((high * 2 ^ WIDE_BITS + low) * 2 ^ LONG_BITS) (result.0 * 2 ^ WIDE_BITS + result.1) }
+    ensures congruent { IsCongruent ((high * 2 ^ WIDE_BITS +
+        low) * 2 ^ LONG_BITS) (result.0 * 2 ^ WIDE_BITS + result.1) }
     ensures low { result.1 < 2 ^ WIDE_BITS }
 {
     let mixed = low ^ high;

@@ -1,5 +1,6 @@
 //! The check word of a frame whose header is given as a number, and its payload as bytes.
-ghost use Rattle.std.specs.Prelude.{◌≡◌, ◌+◌, ◌*◌, ◌^◌, ◌≤◌, ◌<◌, ◌++◌, ℕ, List, fold, length, take};
+ghost use Rattle.std.specs.Prelude.{◌≡◌, ◌+◌, ◌*◌, ◌^◌, ◌≤◌, ◌<◌, ◌++◌, ℕ, List, fold, length};
+ghost use Rattle.std.specs.Prelude.{take};
 ghost use Rattle.pdc_words.specs.Bytes.{AreBytes};
 ghost use Rattle.pdc_words.specs.CheckWord.{IsRemainder, check_after, check_word_of, polynomial_of};
 ghost use Rattle.pdc_words.specs.declared.crc.TheConstants.{DEGREE, STEP, WIDE_STEP};
@@ -35,7 +36,8 @@ fn after_part(state: u64, bytes: &[u8], at: usize, count: usize) -> (u64, usize)
     requires left { length bytes.now < at + 2 * count }
     ensures at { result.1 ≤ length bytes.now }
     ensures left { length bytes.now < result.1 + count }
-    ensures step { (check : ℕ) → IsRemainder (state * 2 ^ DEGREE) (fold check_after check (take at bytes.now))
+    ensures step { (check : ℕ) → IsRemainder (state * 2 ^ DEGREE)
+        (fold check_after check (take at bytes.now))
         → IsRemainder (result.0 * 2 ^ DEGREE) (fold check_after check (take result.1 bytes.now)) }
 {
     if bytes.len() - at < count {
@@ -54,7 +56,8 @@ fn after_part(state: u64, bytes: &[u8], at: usize, count: usize) -> (u64, usize)
 fn after_pieces(state: u64, bytes: &[u8], at: usize) -> u64
     requires at { at ≤ length bytes.now }
     requires few { length bytes.now < at + STEP }
-    ensures step { (check : ℕ) → IsRemainder (state * 2 ^ DEGREE) (fold check_after check (take at bytes.now))
+    ensures step { (check : ℕ) → IsRemainder (state * 2 ^ DEGREE)
+        (fold check_after check (take at bytes.now))
         → IsRemainder (result * 2 ^ DEGREE) (fold check_after check bytes.now) }
 {
     let (state, at) = after_part(state, bytes, at, 4);
@@ -110,7 +113,8 @@ fn after_few(header: u128, payload: &[u8]) -> u64
 /// written need not be read again, which would wait for it.
 #[inline(always)]
 pub fn check_word_behind(header: u128, payload: &[u8]) -> u16
-    ensures { (front : List ℕ) → AreBytes front → length front ≡ BYTES_BEFORE_PAYLOAD → header ≡ polynomial_of front
+    ensures { (front : List ℕ) → AreBytes front → length front ≡ BYTES_BEFORE_PAYLOAD →
+        header ≡ polynomial_of front
         → result ≡ check_word_of (front ++ payload.now) }
 {
     let state = (START << (8 * BYTES_BEFORE_PAYLOAD)) ^ header;

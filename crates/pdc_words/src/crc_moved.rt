@@ -58,7 +58,8 @@ pub fn moved_past(difference: u16, power: u16) -> u16
 /// power is that of the rest's length.
 #[inline]
 pub fn check_word_of_other(check: u16, front: &[u8], other: &[u8], power: u16) -> u16
-    ensures { (rest : List ℕ) → AreBytes rest → IsPower (length rest) power → check ≡ check_word_of (front.now ++ rest)
+    ensures { (rest : List ℕ) → AreBytes rest → IsPower (length rest) power →
+        check ≡ check_word_of (front.now ++ rest)
         → result ≡ check_word_of (other.now ++ rest) }
 {
     check ^ moved_past(check_word(front) ^ check_word(other), power)

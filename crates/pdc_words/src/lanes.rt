@@ -77,8 +77,10 @@ fn lanes_state(q: &[u64]) -> [u64; 16]
 fn lanes_step(q: &[u64], bytes: &[u8], at: usize) -> [u64; 16]
     requires lanes { length q.now ≡ 16 }
     requires at { at + BLOCK ≤ length bytes.now }
-    ensures { (check : ℕ) → IsRemainder (state_of_lanes (map turned q.now) * 2 ^ DEGREE) (fold check_after check (take at bytes.now))
-        → IsRemainder (state_of_lanes (map turned result) * 2 ^ DEGREE) (fold check_after check (take (at + BLOCK) bytes.now)) }
+    ensures { (check : ℕ) → IsRemainder (state_of_lanes (map turned q.now) * 2 ^ DEGREE)
+        (fold check_after check (take at bytes.now))
+        → IsRemainder (state_of_lanes (map turned result) * 2 ^ DEGREE)
+        (fold check_after check (take (at + BLOCK) bytes.now)) }
 {
     let a0 = (q[12] ^ (q[5] ^ q[0])) ^ read_lane(bytes, at);
     let a1 = (q[13] ^ (q[6] ^ q[1])) ^ read_lane(bytes, at + 8);

@@ -18,7 +18,8 @@ pub fn parts_keep_their_words()
 /// Bytes have one check word, and `check_word_of` computes it.
 pub fn check_word_is_the_remainder()
     ensures found { (bytes : List ℕ) → AreBytes bytes → IsCheckWord bytes (check_word_of bytes) }
-    ensures only { (bytes : List ℕ) (check : ℕ) → AreBytes bytes → IsCheckWord bytes check → check ≡ check_word_of bytes }
+    ensures only { (bytes : List ℕ) (check : ℕ) → AreBytes bytes → IsCheckWord bytes check →
+        check ≡ check_word_of bytes }
 {}
 
 /// The check words of bytes of one length differ in what follows from the bytes' difference alone, and a difference in front is moved

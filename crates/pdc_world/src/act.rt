@@ -28,13 +28,19 @@ pub(crate) fn act<C: Plays, S: Store>(
     alloc: Global,
     event: &Event<'_>,
 ) -> Result<Reply, Fault>
-    requires { IsSomePart (core_in event.now) (⟦<Station<C, S> as Sits>⟧.seat station.old) (ledger_view ledger.old) }
-    ensures made { IsMade (core_in event.now) (asked_of event.now) (⟦<Station<C, S> as Sits>⟧.seat station.old)
-        (⟦<Station<C, S> as Sits>⟧.seat station.new) (ledger_view ledger.old) (ledger_view ledger.new) result }
-    ensures why { IsRefused (core_in event.now) (asked_of event.now) (⟦<Station<C, S> as Sits>⟧.seat station.old) (ledger_view ledger.old) result }
-    ensures err { OnErr result ((station.new ≡ station.old) × (ledger_view ledger.new ≡ ledger_view ledger.old)
+    requires { IsSomePart (core_in event.now) (⟦<Station<C, S> as Sits>⟧.seat station.old)
+        (ledger_view ledger.old) }
+    ensures made { IsMade (core_in event.now) (asked_of event.now)
+        (⟦<Station<C, S> as Sits>⟧.seat station.old)
+        (⟦<Station<C, S> as Sits>⟧.seat station.new) (ledger_view ledger.old)
+        (ledger_view ledger.new) result }
+    ensures why { IsRefused (core_in event.now) (asked_of event.now)
+        (⟦<Station<C, S> as Sits>⟧.seat station.old) (ledger_view ledger.old) result }
+    ensures err { OnErr result ((station.new ≡ station.old)
+        × (ledger_view ledger.new ≡ ledger_view ledger.old)
         × (ledger_has_room ledger.new ≡ ledger_has_room ledger.old)) }
-    ensures room { HasRoomFor (ledger_has_room ledger.old) (asked_of event.now) → IsErrOf result NoMemory → ⊥ }
+    ensures room { HasRoomFor (ledger_has_room ledger.old) (asked_of event.now) →
+        IsErrOf result NoMemory → ⊥ }
     ensures refused { IsErrOf result NoMemory → SomeWasRefused }
     ensures settings { C.settings_of station.new.core ≡ C.settings_of station.old.core }
     ensures lead { lead_in station.new.publisher ≡ lead_in station.old.publisher }

@@ -1,6 +1,7 @@
 //! Whether settings agree.
 ghost use Rattle.std.specs.Prelude.{◌≡◌};
-ghost use Rattle.pdc_world.specs.Agreement.{are_alike, are_free, are_sources, are_three, do_agree, is_free, is_taken_for};
+ghost use Rattle.pdc_world.specs.Agreement.{are_alike, are_free, are_sources, are_three};
+ghost use Rattle.pdc_world.specs.Agreement.{do_agree, is_free, is_taken_for};
 
 use pdc_life::{MergedNode, MergerSettings, Pmu, Settings};
 use pdc_row::Output;

@@ -21,9 +21,12 @@ pub(crate) fn bring<C: Plays, S: Store>(
     who: Who,
     number: usize,
 ) -> Result<Reply, Fault>
-    ensures made { IsMade (who_of who) (asked.To (who_of who) number) (⟦<Station<C, S> as Sits>⟧.seat station.old)
-        (⟦<Station<C, S> as Sits>⟧.seat station.new) (ledger_view ledger.now) (ledger_view ledger.now) result }
-    ensures why { IsRefused (who_of who) (asked.To (who_of who) number) (⟦<Station<C, S> as Sits>⟧.seat station.old) (ledger_view ledger.now) result }
+    ensures made { IsMade (who_of who) (asked.To (who_of who) number)
+        (⟦<Station<C, S> as Sits>⟧.seat station.old)
+        (⟦<Station<C, S> as Sits>⟧.seat station.new) (ledger_view ledger.now)
+        (ledger_view ledger.now) result }
+    ensures why { IsRefused (who_of who) (asked.To (who_of who) number)
+        (⟦<Station<C, S> as Sits>⟧.seat station.old) (ledger_view ledger.now) result }
     ensures err { OnErr result (station.new ≡ station.old) }
     ensures room { IsErrOf result NoMemory → ⊥ }
     ensures settings { C.settings_of station.new.core ≡ C.settings_of station.old.core }
@@ -46,9 +49,12 @@ pub(crate) fn bring_junk<C: Plays, S: Store>(
     who: Who,
     bytes: &[u8],
 ) -> Result<Reply, Fault>
-    ensures made { IsMade (who_of who) (asked.Junk (who_of who) bytes.now) (⟦<Station<C, S> as Sits>⟧.seat station.old)
-        (⟦<Station<C, S> as Sits>⟧.seat station.new) (ledger_view ledger.now) (ledger_view ledger.now) result }
-    ensures why { IsRefused (who_of who) (asked.Junk (who_of who) bytes.now) (⟦<Station<C, S> as Sits>⟧.seat station.old) (ledger_view ledger.now) result }
+    ensures made { IsMade (who_of who) (asked.Junk (who_of who) bytes.now)
+        (⟦<Station<C, S> as Sits>⟧.seat station.old)
+        (⟦<Station<C, S> as Sits>⟧.seat station.new) (ledger_view ledger.now)
+        (ledger_view ledger.now) result }
+    ensures why { IsRefused (who_of who) (asked.Junk (who_of who) bytes.now)
+        (⟦<Station<C, S> as Sits>⟧.seat station.old) (ledger_view ledger.now) result }
     ensures err { OnErr result (station.new ≡ station.old) }
     ensures room { IsErrOf result NoMemory → ⊥ }
     ensures settings { C.settings_of station.new.core ≡ C.settings_of station.old.core }

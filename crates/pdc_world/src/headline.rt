@@ -42,9 +42,12 @@ pub fn play_under_headline<S: Store>(
 ) -> Result<(), WorldFault>
     ensures before { Headline (seen_of world.old) (rows_of world.old) }
     ensures after { Headline (seen_of world.new) (rows_of world.new) }
-    ensures exact { (W : Fixed) (H : List Happened) → Holds W H world.new → AllByRecursion (IsRowAt W H) (published H) }
-    ensures made { (W : Fixed) (H : List Happened) → Holds W H world.old → OnOk result (IsPlayed W H (map asked_of events.now) world.new) }
-    ensures cut { (W : Fixed) (H : List Happened) → Holds W H world.old → IfErr result (λ fault. IsCutShort W H (map asked_of events.now) fault world.new) }
+    ensures exact { (W : Fixed) (H : List Happened) → Holds W H world.new →
+        AllByRecursion (IsRowAt W H) (published H) }
+    ensures made { (W : Fixed) (H : List Happened) → Holds W H world.old →
+        OnOk result (IsPlayed W H (map asked_of events.now) world.new) }
+    ensures cut { (W : Fixed) (H : List Happened) → Holds W H world.old →
+        IfErr result (λ fault. IsCutShort W H (map asked_of events.now) fault world.new) }
     ensures refused { IfErr result (λ fault. fault.fault ≡ NoMemory → SomeWasRefused) }
 {
     headline_holds(world);

@@ -86,8 +86,10 @@ pub fn frames_agree<S: Store>(world: &World<S>)
 /// which shows at the place of each column the present block that its stream gave by then, since the column was adopted, and the absent one
 /// where it gave none.
 pub fn blocks_are_present_exactly_where_given<S: Store>(world: &World<S>)
-    ensures sent { (W : Fixed) (H : List Happened) → Holds W H world.now → AllByRecursion (IsPublishedData W H) (published H) }
-    ensures exact { (W : Fixed) (H : List Happened) → Holds W H world.now → AllByRecursion (IsRowAt W H) (published H) }
+    ensures sent { (W : Fixed) (H : List Happened) → Holds W H world.now →
+        AllByRecursion (IsPublishedData W H) (published H) }
+    ensures exact { (W : Fixed) (H : List Happened) → Holds W H world.now →
+        AllByRecursion (IsRowAt W H) (published H) }
 {
     pdc_history::stamps_have_one_layout();
     pdc_history::lives_are_lives();

@@ -1,5 +1,6 @@
 //! What was sent and published.
-ghost use Rattle.std.specs.Prelude.{◌≡◌, ◌≤◌, ◌<◌, ◌∷◌, ◌++◌, [], IfOk, IsOk, IsTrue, OnErr, OnOk, length, true, vec_capacity, vec_len};
+ghost use Rattle.std.specs.Prelude.{◌≡◌, ◌≤◌, ◌<◌, ◌∷◌, ◌++◌, [], IfOk, IsOk, IsTrue, OnErr};
+ghost use Rattle.std.specs.Prelude.{OnOk, length, true, vec_capacity, vec_len};
 ghost use Rattle.pdc_core.specs.pdc_memory.Asking.{SomeWasRefused};
 ghost use Rattle.pdc_history.specs.declared.reply.Published.{Published};
 ghost use Rattle.pdc_frame.specs.declared.limits.TheConstants.{MAX_SIZE};
@@ -28,7 +29,8 @@ impl Ledger {
 
     /// Nothing was sent. It fails where a request for memory was refused.
     pub(crate) fn new(alloc: Global, settings: Settings) -> Result<Ledger, AllocError>
-        ensures none { IfOk result (λ ledger. ledger_view ledger ≡ record { table = settings; frames = []; published = [] }) }
+        ensures none { IfOk result (λ ledger. ledger_view ledger ≡
+            record { table = settings; frames = []; published = [] }) }
         ensures refused { OnErr result SomeWasRefused }
     {
         Ok(Ledger {

@@ -54,8 +54,11 @@ impl<S: Store + Drop> World<S> {
         stores: (S, S, S),
     ) -> Result<World<S>, AllocError>
         requires agree { do_agree a b m ≡ true }
-        requires left { are_left (S.stored stores.0) (S.stored stores.1) (S.stored stores.2) ≡ true }
-        ensures holds { IfOk result (λ world. Holds (world_of a b m leads (S.stored stores.0) (S.stored stores.1) (S.stored stores.2)) [] world) }
+        requires left { are_left (S.stored stores.0) (S.stored stores.1) (S.stored stores.2) ≡
+            true }
+        ensures holds { IfOk result (λ world. Holds
+            (world_of a b m leads (S.stored stores.0) (S.stored stores.1) (S.stored stores.2)) []
+            world) }
         ensures refused { OnErr result SomeWasRefused }
     {
         let (of_a, of_b, of_m) = stores;
@@ -83,8 +86,11 @@ impl<S: Store + Drop> World<S> {
         leads: Leads,
         stores: (S, S, S),
     ) -> Result<World<S>, WorldFault>
-        ensures holds { IfOk result (λ world. Holds (world_of a b m leads (S.stored stores.0) (S.stored stores.1) (S.stored stores.2)) [] world) }
-        ensures fault { IfErr result (IsOpeningFault (world_of a b m leads (S.stored stores.0) (S.stored stores.1) (S.stored stores.2))) }
+        ensures holds { IfOk result (λ world. Holds
+            (world_of a b m leads (S.stored stores.0) (S.stored stores.1) (S.stored stores.2)) []
+            world) }
+        ensures fault { IfErr result (IsOpeningFault
+            (world_of a b m leads (S.stored stores.0) (S.stored stores.1) (S.stored stores.2))) }
         ensures refused { IfErr result (λ fault. fault.fault ≡ NoMemory → SomeWasRefused) }
     {
         if !are_agreed(&a, &b, &m) {
@@ -122,8 +128,10 @@ impl World<ModelMark> {
         m: MergerSettings,
         leads: Leads,
     ) -> Result<World<ModelMark>, WorldFault>
-        ensures holds { IfOk result (λ world. Holds (world_of a b m leads first_stored first_stored first_stored) [] world) }
-        ensures fault { IfErr result (IsOpeningFault (world_of a b m leads first_stored first_stored first_stored)) }
+        ensures holds { IfOk result (λ world. Holds
+            (world_of a b m leads first_stored first_stored first_stored) [] world) }
+        ensures fault { IfErr result (IsOpeningFault
+            (world_of a b m leads first_stored first_stored first_stored)) }
         ensures starts { IfErr result (λ fault. fault.fault ≢ StartsUsedUp) }
         ensures refused { IfErr result (λ fault. fault.fault ≡ NoMemory → SomeWasRefused) }
     {

@@ -17,8 +17,10 @@ impl<S: Store> World<S> {
     ///
     /// What [`World::step`] answers that one, with its number among these events, from 1. The world is as those before it left it.
     pub fn play(&mut self, events: &[Event<'_>]) -> Result<(), WorldFault>
-        ensures made { (W : Fixed) (H : List Happened) → Holds W H self.old → OnOk result (IsPlayed W H (map asked_of events.now) self.new) }
-        ensures cut { (W : Fixed) (H : List Happened) → Holds W H self.old → IfErr result (λ fault. IsCutShort W H (map asked_of events.now) fault self.new) }
+        ensures made { (W : Fixed) (H : List Happened) → Holds W H self.old →
+            OnOk result (IsPlayed W H (map asked_of events.now) self.new) }
+        ensures cut { (W : Fixed) (H : List Happened) → Holds W H self.old →
+            IfErr result (λ fault. IsCutShort W H (map asked_of events.now) fault self.new) }
         ensures refused { IfErr result (λ fault. fault.fault ≡ NoMemory → SomeWasRefused) }
     {
         for (index, event) in events.iter().enumerate() {

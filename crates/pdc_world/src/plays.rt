@@ -24,12 +24,16 @@ pub(crate) trait Plays: Opens {
 
     /// The number of the stream with this id, from 0.
     fn stream_of(&self, id: u16) -> Option<usize>
-        ensures there { IfSome result (λ s. slice_get (stream_ids (kind (Self.settings_of self.now))) s ≡ Some id) }
+        ensures there { IfSome result (λ s. slice_get
+            (stream_ids (kind (Self.settings_of self.now))) s ≡ Some id) }
         ensures exists { IfSome result (λ s. s < Self.Settings.streams (Self.settings_of self.now)) }
-        ensures none { IfNone result ((s : ℕ) → slice_get (stream_ids (kind (Self.settings_of self.now))) s ≢ Some id) };
+        ensures none { IfNone result ((s : ℕ) →
+            slice_get (stream_ids (kind (Self.settings_of self.now))) s ≢ Some id) };
 
     // So it answers, so bytes say to it, and this its lives are given.
-    ghost is_of_kind: { (settings : Self.Settings) → IsOfKind (kind settings) Self.rules (Self.Settings.says settings) (Self.given_with settings) };
+    ghost is_of_kind: { (settings : Self.Settings) →
+        IsOfKind (kind settings) Self.rules (Self.Settings.says settings)
+        (Self.given_with settings) };
 
     // It has a stream.
     ghost has_stream: { (settings : Self.Settings) → 0 < Self.Settings.streams settings };
@@ -63,16 +67,19 @@ fn first_of(pmus: &[Pmu], id: u16) -> Option<usize>
 fn pmu_of(settings: &Settings, id: u16) -> Option<usize>
     ensures there { IfSome result (λ s. slice_get (stream_ids (OfNode settings.now)) s ≡ Some id) }
     ensures exists { IfSome result (λ s. s < length settings.now.pmus.items) }
-    ensures none { IfNone result ((s : ℕ) → slice_get (stream_ids (OfNode settings.now)) s ≢ Some id) }
+    ensures none { IfNone result ((s : ℕ) →
+        slice_get (stream_ids (OfNode settings.now)) s ≢ Some id) }
 {
     first_of(settings.pmus.as_slice(), id)
 }
 
 /// The number of the node with this id: 0 is A, 1 is B.
 fn node_of(settings: &MergerSettings, id: u16) -> Option<usize>
-    ensures there { IfSome result (λ s. slice_get (stream_ids (OfMerger settings.now)) s ≡ Some id) }
+    ensures there { IfSome result (λ s. slice_get (stream_ids (OfMerger settings.now)) s ≡
+        Some id) }
     ensures exists { IfSome result (λ s. s < 2) }
-    ensures none { IfNone result ((s : ℕ) → slice_get (stream_ids (OfMerger settings.now)) s ≢ Some id) }
+    ensures none { IfNone result ((s : ℕ) →
+        slice_get (stream_ids (OfMerger settings.now)) s ≢ Some id) }
 {
     if settings.first.id.value == id {
         return Some(0);

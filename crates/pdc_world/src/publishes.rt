@@ -1,5 +1,6 @@
 //! Publishes.
-ghost use Rattle.std.specs.Prelude.{◌≡◌, ◌≤◌, ◌<◌, ◌++◌, IfErr, IfSome, IsOk, IsTrue, OnErr, length, option_map, vec_capacity, vec_len};
+ghost use Rattle.std.specs.Prelude.{◌≡◌, ◌≤◌, ◌<◌, ◌++◌, IfErr, IfSome, IsOk, IsTrue, OnErr};
+ghost use Rattle.std.specs.Prelude.{length, option_map, vec_capacity, vec_len};
 ghost use Rattle.pdc_core.specs.pdc_memory.Asking.{SomeWasRefused};
 ghost use Rattle.pdc_history.specs.declared.event_fault.Fault.TheVariants.{NoMemory};
 ghost use Rattle.pdc_history.specs.Handed.{who_of};
@@ -26,12 +27,16 @@ fn join(ledger: &mut Ledger, who: Who, row: &Option<DueRow>) -> Option<Published
     requires room { IsTrue ledger.old.sent.has_room }
     requires place { vec_len ledger.old.published < vec_capacity ledger.old.published }
     requires most { IfSome row.now (λ _. length ledger.old.frame.items ≤ MAX_SIZE) }
-    requires of_none { IfSome row.now (λ _. IsOfNone ledger.old.sent.settings ledger.old.frame.items) }
+    requires of_none { IfSome row.now (λ _. IsOfNone ledger.old.sent.settings
+        ledger.old.frame.items) }
     ensures table { ledger.new.sent.settings ≡ ledger.old.sent.settings }
-    ensures frames { ledger.new.sent.frames ≡ ledger.old.sent.frames ++ frames_if ledger.old.frame.items (option_map row_view row.now) }
+    ensures frames { ledger.new.sent.frames ≡ ledger.old.sent.frames ++
+        frames_if ledger.old.frame.items (option_map row_view row.now) }
     ensures published { ledger.new.published.items
-        ≡ ledger.old.published.items ++ listed_with (who_of who) (length ledger.old.sent.frames) (option_map row_view row.now) }
-    ensures result { result ≡ option_map (published_as (who_of who) (length ledger.old.sent.frames)) (option_map row_view row.now) }
+        ≡ ledger.old.published.items ++
+        listed_with (who_of who) (length ledger.old.sent.frames) (option_map row_view row.now) }
+    ensures result { result ≡ option_map (published_as (who_of who)
+        (length ledger.old.sent.frames)) (option_map row_view row.now) }
 {
     let Some(row) = row else {
         return None;
@@ -52,11 +57,15 @@ pub(crate) fn publish<C: Plays, S: Store>(
     ledger: &mut Ledger,
     who: Who,
 ) -> Result<Reply, Fault>
-    requires some { IsSomePart (who_of who) (⟦<Station<C, S> as Sits>⟧.seat station.old) (ledger_view ledger.old) }
-    ensures made { IsMade (who_of who) (asked.Do (who_of who) Publish) (⟦<Station<C, S> as Sits>⟧.seat station.old)
-        (⟦<Station<C, S> as Sits>⟧.seat station.new) (ledger_view ledger.old) (ledger_view ledger.new) result }
+    requires some { IsSomePart (who_of who) (⟦<Station<C, S> as Sits>⟧.seat station.old)
+        (ledger_view ledger.old) }
+    ensures made { IsMade (who_of who) (asked.Do (who_of who) Publish)
+        (⟦<Station<C, S> as Sits>⟧.seat station.old)
+        (⟦<Station<C, S> as Sits>⟧.seat station.new) (ledger_view ledger.old)
+        (ledger_view ledger.new) result }
     ensures memory { IfErr result (λ fault. fault ≡ NoMemory) }
-    ensures err { OnErr result ((station.new ≡ station.old) × (ledger_view ledger.new ≡ ledger_view ledger.old)
+    ensures err { OnErr result ((station.new ≡ station.old)
+        × (ledger_view ledger.new ≡ ledger_view ledger.old)
         × (ledger_has_room ledger.new ≡ ledger_has_room ledger.old)) }
     ensures room { IsTrue (ledger_has_room ledger.old) → IsOk result }
     ensures refused { OnErr result SomeWasRefused }

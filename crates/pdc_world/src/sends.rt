@@ -26,8 +26,10 @@ fn fault_of(fault: SendFault) -> Fault
 pub(crate) fn send(ledger: &mut Ledger, bytes: &[u8]) -> Result<Reply, Fault>
     ensures made { (W : World) (H : List Happened) → Keeps W H (ledger_view ledger.old) →
         IfOk result (λ reply. IsSend W H bytes.now (ledger_view ledger.new) reply) }
-    ensures why { (W : World) (H : List Happened) → Keeps W H (ledger_view ledger.old) → IfErr result (IsWhy W H (asked.Send bytes.now)) }
-    ensures err { OnErr result ((ledger_view ledger.new ≡ ledger_view ledger.old) × (ledger_has_room ledger.new ≡ ledger_has_room ledger.old)) }
+    ensures why { (W : World) (H : List Happened) → Keeps W H (ledger_view ledger.old) →
+        IfErr result (IsWhy W H (asked.Send bytes.now)) }
+    ensures err { OnErr result ((ledger_view ledger.new ≡ ledger_view ledger.old)
+        × (ledger_has_room ledger.new ≡ ledger_has_room ledger.old)) }
     ensures room { IsTrue (ledger_has_room ledger.old) → IsErrOf result NoMemory → ⊥ }
     ensures refused { IsErrOf result NoMemory → SomeWasRefused }
 {

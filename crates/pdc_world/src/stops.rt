@@ -29,7 +29,8 @@ fn fault_of(fault: StopFault) -> Fault
 
 /// What is told of a life that began.
 fn begun<C: Plays, S: Store>(station: &Station<C, S>, who: Who) -> Reply
-    ensures value { result ≡ Stopped who (S.stored (mark_in station.now.publisher)).start (S.stored (mark_in station.now.publisher)).floor }
+    ensures value { result ≡ Stopped who (S.stored (mark_in station.now.publisher)).start
+        (S.stored (mark_in station.now.publisher)).floor }
     ensures fits { (S.stored (mark_in station.now.publisher)).start < 2 ^ 32 }
 {
     let (start, floor) = station.publisher.mark().stored();
@@ -44,8 +45,10 @@ pub(crate) fn stop<C: Plays, S: Store>(
     who: Who,
     at: StopAt,
 ) -> Result<Reply, Fault>
-    ensures made { IsMade (who_of who) (asked.Do (who_of who) (act_of (Stop at))) (⟦<Station<C, S> as Sits>⟧.seat station.old)
-        (⟦<Station<C, S> as Sits>⟧.seat station.new) (ledger_view ledger.now) (ledger_view ledger.now) result }
+    ensures made { IsMade (who_of who) (asked.Do (who_of who) (act_of (Stop at)))
+        (⟦<Station<C, S> as Sits>⟧.seat station.old)
+        (⟦<Station<C, S> as Sits>⟧.seat station.new) (ledger_view ledger.now)
+        (ledger_view ledger.now) result }
     ensures why { IsRefused (who_of who) (asked.Do (who_of who) (act_of (Stop at)))
         (⟦<Station<C, S> as Sits>⟧.seat station.old) (ledger_view ledger.now) result }
     ensures err { OnErr result (station.new ≡ station.old) }

@@ -25,7 +25,8 @@ fn send_layout<C: Core>(core: &C, ledger: &mut Ledger)
     requires ready { IsReady ledger.old }
     requires frame { IsSomeFrame (C.stands_for core.now) ledger.old.sent.settings }
     ensures table { ledger.new.sent.settings ≡ ledger.old.sent.settings }
-    ensures frames { (g : Given) (E : List Entry) → C.stands_for core.now g E → ledger.new.sent.frames ≡ ledger.old.sent.frames ++ layout_wire g E 0 ∷ [] }
+    ensures frames { (g : Given) (E : List Entry) → C.stands_for core.now g E →
+        ledger.new.sent.frames ≡ ledger.old.sent.frames ++ layout_wire g E 0 ∷ [] }
     ensures published { ledger.new.published.items ≡ ledger.old.published.items }
 {
     core.layout_frame(0, &mut ledger.frame).unwrap();
@@ -39,11 +40,15 @@ pub(crate) fn tick<C: Plays, S: Store>(
     who: Who,
     now: u64,
 ) -> Result<Reply, Fault>
-    requires some { IsSomePart (who_of who) (⟦<Station<C, S> as Sits>⟧.seat station.old) (ledger_view ledger.old) }
-    ensures made { IsMade (who_of who) (asked.Do (who_of who) (TickAt now)) (⟦<Station<C, S> as Sits>⟧.seat station.old)
-        (⟦<Station<C, S> as Sits>⟧.seat station.new) (ledger_view ledger.old) (ledger_view ledger.new) result }
+    requires some { IsSomePart (who_of who) (⟦<Station<C, S> as Sits>⟧.seat station.old)
+        (ledger_view ledger.old) }
+    ensures made { IsMade (who_of who) (asked.Do (who_of who) (TickAt now))
+        (⟦<Station<C, S> as Sits>⟧.seat station.old)
+        (⟦<Station<C, S> as Sits>⟧.seat station.new) (ledger_view ledger.old)
+        (ledger_view ledger.new) result }
     ensures memory { IfErr result (λ fault. fault ≡ NoMemory) }
-    ensures err { OnErr result ((station.new ≡ station.old) × (ledger_view ledger.new ≡ ledger_view ledger.old)
+    ensures err { OnErr result ((station.new ≡ station.old)
+        × (ledger_view ledger.new ≡ ledger_view ledger.old)
         × (ledger_has_room ledger.new ≡ ledger_has_room ledger.old)) }
     ensures room { IsTrue (ledger_has_room ledger.old) → IsOk result }
     ensures refused { OnErr result SomeWasRefused }

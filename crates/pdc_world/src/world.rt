@@ -1,5 +1,6 @@
 //! A world.
-ghost use Rattle.std.specs.Prelude.{◌≡◌, IfErr, IfOk, IsErrOf, IsOk, IsTrue, List, OnErr, OnOk, length, option_map, true};
+ghost use Rattle.std.specs.Prelude.{◌≡◌, IfErr, IfOk, IsErrOf, IsOk, IsTrue, List, OnErr, OnOk};
+ghost use Rattle.std.specs.Prelude.{length, option_map, true};
 ghost use Rattle.std.specs.List.{slice_get};
 ghost use Rattle.pdc_history.specs.declared.event_fault.Fault.TheVariants.{NoMemory};
 ghost use Rattle.pdc_core.specs.pdc_memory.Asking.{SomeWasRefused};
@@ -39,9 +40,11 @@ impl<S: Store> Model for World<S> {
 
     ghost Value = { WorldView };
 
-    ghost view = { λ w. world_view (station_view S.stored w.a) (station_view S.stored w.b) (station_view S.stored w.m) w.ledger };
+    ghost view = { λ w. world_view (station_view S.stored w.a) (station_view S.stored w.b)
+        (station_view S.stored w.m) w.ledger };
 
-    ghost invariant = { λ w. HoldsSome (world_view (station_view S.stored w.a) (station_view S.stored w.b) (station_view S.stored w.m) w.ledger) };
+    ghost invariant = { λ w. HoldsSome (world_view (station_view S.stored w.a)
+        (station_view S.stored w.b) (station_view S.stored w.m) w.ledger) };
 }
 
 impl<S: Store> World<S> {
@@ -68,10 +71,13 @@ impl<S: Store> World<S> {
 
     /// What the core that an event is for is asked, or a PMU.
     fn act_for(&mut self, event: &Event<'_>) -> Result<Reply, Fault>
-        ensures made { (W : Fixed) (H : List Happened) → Holds W H self.old → IfOk result (λ reply. IsAnswered W H (asked_of event.now) reply self.new) }
-        ensures why { (W : Fixed) (H : List Happened) → Holds W H self.old → IfErr result (IsWhy W H (asked_of event.now)) }
+        ensures made { (W : Fixed) (H : List Happened) → Holds W H self.old →
+            IfOk result (λ reply. IsAnswered W H (asked_of event.now) reply self.new) }
+        ensures why { (W : Fixed) (H : List Happened) → Holds W H self.old →
+            IfErr result (IsWhy W H (asked_of event.now)) }
         ensures err { OnErr result (self.new ≡ self.old) }
-        ensures room { HasRoomFor self.old.has_room (asked_of event.now) → IsErrOf result NoMemory → ⊥ }
+        ensures room { HasRoomFor self.old.has_room (asked_of event.now) → IsErrOf result NoMemory →
+            ⊥ }
         ensures refused { IsErrOf result NoMemory → SomeWasRefused }
     {
         match receiver(event) {
@@ -103,13 +109,17 @@ impl<S: Store> World<S> {
     /// Where it may not: a premise that it breaks, `NoSuchFrame` or `StartsUsedUp`; and else `NoMemory`, where a request for memory was
     /// refused. Then nothing changes.
     pub fn step(&mut self, event: &Event<'_>) -> Result<Reply, Fault>
-        ensures made { (W : Fixed) (H : List Happened) → Holds W H self.old → IfOk result (λ reply. IsAnswered W H (asked_of event.now) reply self.new) }
-        ensures why { (W : Fixed) (H : List Happened) → Holds W H self.old → IfErr result (IsWhy W H (asked_of event.now)) }
+        ensures made { (W : Fixed) (H : List Happened) → Holds W H self.old →
+            IfOk result (λ reply. IsAnswered W H (asked_of event.now) reply self.new) }
+        ensures why { (W : Fixed) (H : List Happened) → Holds W H self.old →
+            IfErr result (IsWhy W H (asked_of event.now)) }
         // And where there is a cause, it is told.
-        ensures told { (W : Fixed) (H : List Happened) (cause : Cause) → Holds W H self.old → IsFault W H (asked_of event.now) cause →
+        ensures told { (W : Fixed) (H : List Happened) (cause : Cause) → Holds W H self.old →
+            IsFault W H (asked_of event.now) cause →
             IsErrOf result (fault_of cause) }
         ensures err { OnErr result (self.new ≡ self.old) }
-        ensures room { HasRoomFor self.old.has_room (asked_of event.now) → IsErrOf result NoMemory → ⊥ }
+        ensures room { HasRoomFor self.old.has_room (asked_of event.now) → IsErrOf result NoMemory →
+            ⊥ }
         ensures refused { IsErrOf result NoMemory → SomeWasRefused }
     {
         asked_is_event_or_fault();

@@ -13,7 +13,7 @@
 use pdc_life::{MergedNode, Pmu, Timing};
 use pdc_row::Output;
 use pdc_settings::{
-    Input, MergerSettings, Network, NodeSettings, Service, SettingsFault, is_of_merger,
+    Document, Input, MergerSettings, Network, NodeSettings, Service, SettingsFault,
 };
 use std::alloc::{AllocError, Global};
 use std::fmt::Write;
@@ -203,9 +203,12 @@ fn read_network(alloc: Global, text: &str, told: &mut String) -> Result<(), Allo
 
 /// Tells whose a text is.
 fn read_kind(alloc: Global, text: &str, told: &mut String) -> Result<(), AllocError> {
-    match is_of_merger(alloc, text) {
-        Ok(true) => told.push_str("a merger's"),
-        Ok(false) => told.push_str("a node's"),
+    match Document::parse(alloc, text) {
+        Ok(document) => told.push_str(if document.is_merger() {
+            "a merger's"
+        } else {
+            "a node's"
+        }),
         Err(fault) => tell_fault(told, fault),
     }
 }

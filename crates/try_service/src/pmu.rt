@@ -2,7 +2,7 @@
 
 use crate::network::next_datagram;
 use pdc_frame::{Kind, StreamId, instant, read_frame};
-use pdc_simulation::{Place, Simulated, simulate};
+use pdc_simulation::{Simulated, Target, simulate};
 use std::alloc::Global;
 use std::io;
 use std::net::UdpSocket;
@@ -47,7 +47,7 @@ pub fn play(rt: &HostRuntime, alloc: Global, port: u16, socket: &UdpSocket) -> i
         id: StreamId { value: 11 },
         rate: RATE,
         count: 3,
-        places: &[Place::Port(port)],
+        places: &[Target::Port(port)],
         tcp: None,
         config_every: None,
         is_grid: false,

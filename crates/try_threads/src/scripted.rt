@@ -4,7 +4,7 @@ ghost use Rattle.std.specs.Prelude.{◌≡◌, ◌≤◌, ℕ, length};
 use pdc_cfg::read_config;
 use pdc_core::Core;
 use pdc_frame::read_frame;
-use pdc_threads::{Did, Hub, Naming, Next, Numbered, Outcome, Source, Ticker, Told};
+use pdc_threads::{Did, Hub, Naming, Next, Numbered, Outcome, Progress, Source, Ticker};
 use std::sync::Wait;
 use std::sync::atomic::{AtomicBool, AtomicU64, Ordering};
 use std::thread;
@@ -227,7 +227,7 @@ impl<'h, 'r, C: Core + Drop, N: Naming<C::Settings>, R: Wait> Ticker
         true
     }
 
-    fn tell(&mut self, told: &Told) {
+    fn tell(&mut self, told: &Progress) {
         self.shown.published.store(told.published, Ordering::SeqCst);
         self.shown.last.store(told.last, Ordering::SeqCst);
     }

@@ -57,7 +57,8 @@ impl DiskMark<MemoryDisk> {
         requires { is_below (stored_of self.old) next ≡ true }
         ensures mark { mark_on self.new
             ≡ (if landed then with_stored (mark_on self.old) next else mark_on self.old) }
-        ensures file { seen_of (disk_of self.new) ≡ file_stopped landed (seen_of (disk_of self.old)) (mark_on self.new) }
+        ensures file { seen_of (disk_of self.new) ≡
+            file_stopped landed (seen_of (disk_of self.old)) (mark_on self.new) }
         ensures settled { AllSettled (is_settled_at (disk_of self.new)) }
         ensures failures { failures_of (disk_of self.new) ≡ 0 }
     {
@@ -84,7 +85,8 @@ impl Store for DiskMark<MemoryDisk> {
     ghost use Rattle.pdc_mark.specs.DiskMark.{disk_of, mark_on, stored_of, with_stored};
     ghost use Rattle.pdc_mark.specs.Stops.{IsLeft};
 
-    ghost stops_as = { λ stop before after. IsLeft stop (seen_of (disk_of before)) (seen_of (disk_of after)) (mark_on after)
+    ghost stops_as = { λ stop before after. IsLeft stop (seen_of (disk_of before))
+        (seen_of (disk_of after)) (mark_on after)
         (is_settled_at (disk_of after)) (failures_of (disk_of after)) };
 
     ghost never_fails = { Prim.search rules };
@@ -104,10 +106,13 @@ impl Store for DiskMark<MemoryDisk> {
 
     fn begin_stopped(&mut self, landed: bool)
         requires { (stored_of self.old).start < u32.MAX }
-        ensures stored { stored_of self.new ≡ (if landed then with_next_start (stored_of self.old) else stored_of self.old) }
+        ensures stored { stored_of self.new ≡
+            (if landed then with_next_start (stored_of self.old) else stored_of self.old) }
         ensures mark { mark_on self.new
-            ≡ (if landed then with_stored (mark_on self.old) (with_next_start (stored_of self.old)) else mark_on self.old) }
-        ensures file { seen_of (disk_of self.new) ≡ file_stopped landed (seen_of (disk_of self.old)) (mark_on self.new) }
+            ≡ (if landed then with_stored (mark_on self.old) (with_next_start (stored_of self.old))
+            else mark_on self.old) }
+        ensures file { seen_of (disk_of self.new) ≡
+            file_stopped landed (seen_of (disk_of self.old)) (mark_on self.new) }
         ensures settled { AllSettled (is_settled_at (disk_of self.new)) }
         ensures failures { failures_of (disk_of self.new) ≡ 0 }
     {
@@ -116,10 +121,13 @@ impl Store for DiskMark<MemoryDisk> {
 
     fn reserve_stopped(&mut self, floor: u64, landed: bool)
         requires { (stored_of self.old).floor < floor }
-        ensures stored { stored_of self.new ≡ (if landed then with_floor (stored_of self.old) floor else stored_of self.old) }
+        ensures stored { stored_of self.new ≡
+            (if landed then with_floor (stored_of self.old) floor else stored_of self.old) }
         ensures mark { mark_on self.new
-            ≡ (if landed then with_stored (mark_on self.old) (with_floor (stored_of self.old) floor) else mark_on self.old) }
-        ensures file { seen_of (disk_of self.new) ≡ file_stopped landed (seen_of (disk_of self.old)) (mark_on self.new) }
+            ≡ (if landed then with_stored (mark_on self.old)
+            (with_floor (stored_of self.old) floor) else mark_on self.old) }
+        ensures file { seen_of (disk_of self.new) ≡
+            file_stopped landed (seen_of (disk_of self.old)) (mark_on self.new) }
         ensures settled { AllSettled (is_settled_at (disk_of self.new)) }
         ensures failures { failures_of (disk_of self.new) ≡ 0 }
     {
@@ -128,10 +136,13 @@ impl Store for DiskMark<MemoryDisk> {
 
     fn raise_stopped(&mut self, counts: &[u16; COUNTS], landed: bool)
         requires { IsRaise (stored_of self.old).counts counts.now }
-        ensures stored { stored_of self.new ≡ (if landed then with_counts (stored_of self.old) counts.now else stored_of self.old) }
+        ensures stored { stored_of self.new ≡
+            (if landed then with_counts (stored_of self.old) counts.now else stored_of self.old) }
         ensures mark { mark_on self.new
-            ≡ (if landed then with_stored (mark_on self.old) (with_counts (stored_of self.old) counts.now) else mark_on self.old) }
-        ensures file { seen_of (disk_of self.new) ≡ file_stopped landed (seen_of (disk_of self.old)) (mark_on self.new) }
+            ≡ (if landed then with_stored (mark_on self.old)
+            (with_counts (stored_of self.old) counts.now) else mark_on self.old) }
+        ensures file { seen_of (disk_of self.new) ≡
+            file_stopped landed (seen_of (disk_of self.old)) (mark_on self.new) }
         ensures settled { AllSettled (is_settled_at (disk_of self.new)) }
         ensures failures { failures_of (disk_of self.new) ≡ 0 }
     {

@@ -4,7 +4,7 @@ use super::same::is;
 use pdc_frame::FrameFault;
 use pdc_journal::counters_line;
 use pdc_life::{Outcome, Refusal};
-use pdc_ports::{Counts, Told};
+use pdc_ports::{Counts, Progress};
 
 #[test]
 fn causes_that_refused_are_told(rt: HostRuntime) {
@@ -15,7 +15,7 @@ fn causes_that_refused_are_told(rt: HostRuntime) {
     counts.count(Outcome::Refused(Refusal::NoFrame(FrameFault::BadCheck)));
     counts.count(Outcome::Refused(Refusal::Late));
     counts.count(Outcome::Candidate);
-    let told = Told {
+    let told = Progress {
         counts,
         published: 1,
         last: 57_478_860_001,

@@ -15,10 +15,7 @@ any_other_part-requires g t c κs within =
         search rules,
         (
           later_len g.P.Part.shape_of c.in-Some.part.now c.args.parts.now c.in-Some.later.now c.args.bytes.now c.split_at.result.1.now first c.requires.size,
-          (
-            later_exist g.P.Part.column_of g.P.Part.shape_of (length c.args.held.now) c.args.quality c.in-Some.part.now c.args.parts.now c.in-Some.later.now c.args.bytes.now c.split_at.result.1.now c.words_are_cut.ensures first c.requires.columns,
-            (c.requires.first, c.requires.second),
-          ),
+          later_exist g.P.Part.column_of g.P.Part.shape_of (length c.args.columns.now) c.args.quality c.in-Some.part.now c.args.parts.now c.in-Some.later.now c.args.bytes.now c.split_at.result.1.now c.words_are_cut.ensures first c.requires.columns,
         ),
       ),
     )

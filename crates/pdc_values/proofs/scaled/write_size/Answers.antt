@@ -1,8 +1,8 @@
-use Rattle.std.proofs.Common.{arith, rules, ◌≡◌, ◌+◌, ◌<◌, ◌≤◌, ◌^◌, ◌/◌, ◌%◌, ℕ, append-nil, drop, length, refl, sym}
+use Rattle.std.proofs.Common.{arith, rules, ◌≡◌, ◌+◌, ◌<◌, ◌≤◌, ◌^◌, ◌/◌, ◌%◌, ◌∷◌, ℕ, drop, length, refl, sym}
 use Rattle.std.specs.Fmt.{decimal}
 use Rattle.std.proofs.Math.Nat.{div-le_of_le-mul, mod-lt}
 use Rattle.std.proofs.lemmas.Fmt.{decimal_nonempty, length-decimal-le}
-use Rattle.std.proofs.lemmas.List.{drop-drop, drop-set, drop_all}
+use Rattle.std.proofs.lemmas.List.{append_assoc, drop-append-le, drop-drop, drop-set, length-append, length-drop}
 use Rattle.pdc_values.proofs.scaled.write_size.Goals as goal
 
 -- the digits behind the point, with their 1 in front: at most seven
@@ -38,12 +38,31 @@ pub returns-clause-room : goal.returns-clause-room
 returns-clause-room c =
     let tail = tail_short c.args.size c.args.unit c.requires.low c.requires.high in
     let whole = whole_short c.args.size c.args.unit c.requires.low c.ranges.size.fits in
-    (omega (arith, c.write_digits-point.ensures.start, c.write_digits.ensures.start), omega (arith, c.write_digits-point.ensures.start, c.write_digits.ensures.start))
+    omega (arith, c.write_digits-point.ensures.start, c.write_digits.ensures.start)
+
+pub returns-clause-start : goal.returns-clause-start
+returns-clause-start c =
+    let n = c.args.unit + c.args.size % c.args.unit in
+    let q = c.args.size / c.args.unit in
+    let small = is_small c.args.size c.args.unit c.requires.low c.requires.high in
+    let behind : length (46 ∷ drop 1 (decimal n)) ≡ length (decimal n) =
+    omega (arith, length-drop 1 (decimal n), decimal_nonempty n (omega arith)) in
+    omega (arith, behind, length-append (decimal q) (46 ∷ drop 1 (decimal n)), c.write_digits-point.ensures.start, c.write_digits.ensures.start)
 
 pub returns-clause-written : goal.returns-clause-written
 returns-clause-written c =
     let n = c.args.unit + c.args.size % c.args.unit in
+    let q = c.args.size / c.args.unit in
     let w = c.write_digits-point in
+    let rest = drop 32 c.args.text.now in
     let small = is_small c.args.size c.args.unit c.requires.low c.requires.high in
-    let inside : w.result < length w.new.buf = omega (arith, decimal_nonempty n (omega arith), w.ensures.start) in
-    rw (c.write_digits.ensures.written, drop-set w.new.buf w.result 46 inside, sym (drop-drop 1 w.result w.new.buf), w.ensures.written, drop_all 32 c.args.text.now (search rules), append-nil) refl
+    let some = decimal_nonempty n (omega arith) in
+    let inside : w.result < length w.new.buf = omega (arith, some, w.ensures.start) in
+    rw (
+      c.write_digits.ensures.written,
+      drop-set w.new.buf w.result 46 inside,
+      sym (drop-drop 1 w.result w.new.buf),
+      w.ensures.written,
+      drop-append-le 1 (decimal n) rest some,
+      append_assoc (decimal q) (46 ∷ drop 1 (decimal n)) rest,
+    ) refl

@@ -12,7 +12,7 @@ use pdc_show::{ShowFault, run_show};
 use std::process::Abort;
 
 /// How many sizes of heaps there are above none: up to some blocks more than any call wants.
-const SIZES: usize = 4400;
+const SIZES: usize = 4700;
 
 /// A call that may want memory.
 enum Call {

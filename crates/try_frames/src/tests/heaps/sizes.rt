@@ -17,8 +17,8 @@ pub const RING: usize = 256 * 5 * 8;
 /// vectors of four words, with the frame.
 pub const STREAM: usize = 32 + 65_536 + 4 * 32 + 32;
 
-/// The blocks of a line of 52 digits: what one read takes, the digits, and the bytes that they stand for.
-pub const SHOWN: usize = 65_536 + 64 + 32;
+/// The blocks of a line of 52 digits: what one read takes, what is printed, the digits, and the bytes that they stand for.
+pub const SHOWN: usize = 65_536 + 8192 + 64 + 32;
 
 /// The data frame of PMU 11 as a line, and what is said of it where its configuration is not known.
 pub const LINE: &str = "AA02001A000B448527F000004E200000392B000009C400002623\n";

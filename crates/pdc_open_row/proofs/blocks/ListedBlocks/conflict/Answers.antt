@@ -2,5 +2,5 @@ use Rattle.std.proofs.Common.{length}
 use Rattle.pdc_open_row.proofs.Blank.{columns_exist}
 use Rattle.pdc_open_row.proofs.blocks.ListedBlocks.conflict.Goals as goal
 
-pub any_other-requires-clause-columns : goal.any_other-requires-clause-columns
-any_other-requires-clause-columns g c = columns_exist g.B.Offered.view (length c.args.held.now) c.args._quality c.args.self.now.cells.now c.requires.columns
+pub any_other-requires : goal.any_other-requires
+any_other-requires g c = columns_exist g.B.Offered.view (length c.args.columns.now) c.args._quality c.args.self.now.cells.now c.requires

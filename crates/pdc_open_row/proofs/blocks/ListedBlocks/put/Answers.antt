@@ -3,4 +3,4 @@ use Rattle.pdc_open_row.proofs.Blank.{columns_exist}
 use Rattle.pdc_open_row.proofs.blocks.ListedBlocks.put.Goals as goal
 
 pub put_cells-requires-clause-columns : goal.put_cells-requires-clause-columns
-put_cells-requires-clause-columns g c = columns_exist g.B.Offered.view (length c.args.held.now) c.args.quality c.args.self.now.cells.now c.requires.columns
+put_cells-requires-clause-columns g c = columns_exist g.B.Offered.view (length c.args.columns.now) c.args.quality c.args.self.now.cells.now c.requires.columns

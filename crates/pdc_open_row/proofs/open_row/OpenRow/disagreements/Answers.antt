@@ -11,5 +11,5 @@ loop-place-preserved c = grind (arith, common_steps, disagreements_step)
 
 pub returns-then-not-self-clause-value : goal.returns-then-not-self-clause-value
 returns-then-not-self-clause-value c =
-    sym (none_disagree c.args.layout.now.shapes.items c.self.inside.held.items c.self.inside.first c.self.inside.second (c.self.invariant.alone c.if-not-self.true))
+    sym (none_disagree c.args.layout.now.shapes.items c.self.inside.columns (c.self.invariant c.if-not-self.true))
     ∙ ap (λ (row : OpenRowView). disagreements_of c.args.layout.now.shapes.items row.columns) c.self.view_is

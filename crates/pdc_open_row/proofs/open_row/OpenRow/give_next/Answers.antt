@@ -5,7 +5,7 @@ use Rattle.std.proofs.lemmas.List.{get_or_default}
 use Rattle.pdc_row.specs.pdc_cfg.declared.shape.Shape.{Shape}
 use Rattle.pdc_row.specs.CellView.{block_view}
 use Rattle.pdc_row.specs.Quality.{time_quality_of, worst_of}
-use Rattle.pdc_open_row.specs.OpenRowParts.{columns_of, worst_kept}
+use Rattle.pdc_open_row.specs.OpenRowParts.{worst_kept}
 use Rattle.pdc_open_row.specs.Row.{blocks_at, blocks_of, qualities_at, qualities_of}
 use Rattle.pdc_open_row.specs.Views.{ColumnView, OpenRowView, empty_column}
 use Rattle.pdc_open_row.proofs.RowSteps.{blocks_more, qualities_step}
@@ -47,14 +47,9 @@ returns-clause-quality c =
     let place : ℕ = c.args.from.place in
     let shape : Some c.in-Some.shape ≡ get_or c.args.shapes.now place None =
     sym c.in-Some.is ∙ c.index-shapes-place.is ∙ get_or_default c.args.shapes.now place c.index-shapes-place.result None c.requires.place in
-    -- the columns as they are lent, and as they are seen
-    let lent : List ColumnView = columns_of c.as_slice.result.now c.self.inside.first c.self.inside.second in
-    let columns : lent ≡ c.args.self.now.columns =
-    ap (λ held. columns_of held c.self.inside.first c.self.inside.second) c.as_slice.ensures.value
-    ∙ ap (λ (r : OpenRowView). r.columns) c.self.view_is in
     let rest : List _ = qualities_of (drop (place + 1) c.args.shapes.now) (drop (place + 1) c.args.self.now.columns) in
     c.give-above.ensures.quality rest
     ∙ ap (λ o. worst_of (worst_kept c.args.from.above) (option_to_list (option_map time_quality_of o) ++ rest)) c.chosen_at-chosen.ensures
-    ∙ ap (λ cs. worst_of (worst_kept c.args.from.above) (qualities_at (Some c.in-Some.shape) (get_or cs place empty_column) ++ rest)) columns
+    ∙ ap (λ (row : OpenRowView). worst_of (worst_kept c.args.from.above) (qualities_at (Some c.in-Some.shape) (get_or row.columns place empty_column) ++ rest)) c.self.view_is
     ∙ ap (λ o. worst_of (worst_kept c.args.from.above) (qualities_at o (get_or c.args.self.now.columns place empty_column) ++ rest)) shape
     ∙ ap (worst_of (worst_kept c.args.from.above)) (sym (qualities_step c.args.shapes.now c.args.self.now.columns place c.requires.place))

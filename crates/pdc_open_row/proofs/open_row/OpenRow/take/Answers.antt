@@ -1,14 +1,10 @@
-use Rattle.std.proofs.Common.{ap, arith, length}
-use Rattle.pdc_open_row.specs.Views.{OpenRowView}
-use Rattle.pdc_open_row.proofs.OpenRowParts.{columns_seen}
+use Rattle.std.proofs.Common.{◌∙◌, ap}
+use Rattle.pdc_open_row.specs.Taking.{any_second}
+use Rattle.pdc_open_row.proofs.OpenRowParts.{seconds_kept}
 use Rattle.pdc_open_row.proofs.open_row.OpenRow.take.Goals as goal
 
-pub put-requires-clause-columns : goal.put-requires-clause-columns
-put-requires-clause-columns g c = λ k d h.
-    omega (
-      arith,
-      c.requires.columns k d h,
-      ap length c.as_mut_slice.ensures.value,
-      columns_seen c.args.self.now.columns c.self.inside.held.items c.self.inside.first c.self.inside.second
-          (ap (λ (row : OpenRowView). row.columns) c.self.view_is) c.self.invariant.first c.self.invariant.second,
-    )
+pub invariant_of-self-else-lane-ne0 : goal.invariant_of-self-else-lane-ne0
+invariant_of-self-else-lane-ne0 g c = λ e.
+    ap any_second c.put.ensures
+    ∙ seconds_kept c.args.lane (g.C.Blocks.cells c.args.blocks.now c.args.quality) c.self.inside.columns c.if-lane-ne0.false
+    ∙ c.self.invariant e

@@ -6,4 +6,4 @@ use Rattle.pdc_open_row.proofs.parts.CutBlocks.conflict.Goals as goal
 
 pub any_other_part-requires-clause-columns : goal.any_other_part-requires-clause-columns
 any_other_part-requires-clause-columns g c =
-    each_exists (length c.args.held.now) (cut_cells g.P.Part.column_of g.P.Part.shape_of c.args.self.now.parts.now c.args.quality (words_in c.args.self.now.bytes.now)) c.requires.columns
+    each_exists (length c.args.columns.now) (cut_cells g.P.Part.column_of g.P.Part.shape_of c.args.self.now.parts.now c.args.quality (words_in c.args.self.now.bytes.now)) c.requires
