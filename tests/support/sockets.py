@@ -71,7 +71,9 @@ class Reader(threading.Thread):
     def __init__(self, port, *onwards, host=HOST, rate=50):
         super().__init__(daemon=True)
         self.socket = datagrams(host, port)
-        self.onwards, self.rate, self.frames, self.times, self.instants, self.layout = onwards, rate, [], [], [], None
+        self.onwards, self.rate, self.frames, self.times, self.instants = onwards, rate, [], [], []
+        # The layout that came last, and the data frame that came last with the layout that it is of.
+        self.layout, self.newest = None, None
         self.start()
 
     def run(self):
@@ -83,6 +85,7 @@ class Reader(threading.Thread):
             self.frames.append(frame)
             if kind_of(frame) == DATA:
                 self.instants.append(instant_of(frame, self.rate))
+                self.newest = (self.layout, frame)
             else:
                 self.layout = frame
 
@@ -90,9 +93,9 @@ class Reader(threading.Thread):
         return rows_of(list(self.frames), self.rate)
 
     def latest(self):
-        """The row that came last, if one did."""
-        layout, frame = self.layout, self.frames[-1] if self.frames else b""
-        return rows_of([layout, frame], self.rate)[0] if layout and frame and kind_of(frame) == DATA else None
+        """The row that came last, if one did whose layout is known. Layouts that came behind it, which are repeated where no data comes, change nothing."""
+        layout, frame = self.newest or (None, None)
+        return rows_of([layout, frame], self.rate)[0] if layout else None
 
     def present(self, count, limit=30):
         """Waits until a row comes with so many blocks present."""
@@ -101,7 +104,7 @@ class Reader(threading.Thread):
             row = self.latest()
             return row and len(row.present()) >= count
 
-        until(f"a row has {count} blocks present", came, limit)
+        until(f"a row has {count} blocks present", came, limit, lambda: f"of {len(self.frames)} frames {len(self.instants)} are data, the last ones of {self.instants[-3:]}")
 
     def delays(self):
         """How many seconds behind its instant each data frame came."""
