@@ -11,6 +11,7 @@
 //! there is one.
 #![tactic(auto)]
 
+mod beside;
 mod either;
 mod handed;
 mod host;

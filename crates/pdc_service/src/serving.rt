@@ -6,14 +6,14 @@ ghost use Rattle.pdc_startup.specs.declared.concentrator.Concentrator.{Concentra
 ghost use Rattle.pdc_startup.specs.Concentrator.{output_of, streams_of};
 ghost use Rattle.pdc_threads.specs.Run.{GivesFrom};
 
+use crate::beside::{start_journal, start_metrics, start_record, start_sessions};
 use crate::either::run_concentrator;
-use crate::porter::JournalPorter;
 use crate::run_texts::unsent_text;
-use pdc_journal::{AnnouncingSink, CountingSink, Journal, Reporting, RunCounters};
+use pdc_journal::{AnnouncingSink, CountingSink, Reporting, RunCounters};
 use pdc_mark::Mark;
-use pdc_metrics::{Metered, OwnFiles, serve_metrics};
-use pdc_recording::{RecordedTicker, Series, Shelf, write_record};
-use pdc_server::{Naming, Recent, Reception, RememberingSink, Seats, serve};
+use pdc_metrics::OwnFiles;
+use pdc_recording::{RecordedTicker, Series, Shelf};
+use pdc_server::{Naming, Recent, RememberingSink, Seats};
 use pdc_startup::{
     Begun, Concentrator, ControlledTicker, Observed, RunOptions, ServiceFault, observe_all, plan_of,
 };
@@ -54,121 +54,6 @@ pub struct Serving<'a> {
     pub options: &'a RunOptions<'a>,
     pub consumers: &'a Consumers,
     pub observed: &'a Observed,
-}
-
-/// Serves consumers, one after the other, until the run ends.
-fn serve_consumers<N: Naming, R: Wait + Clock>(
-    rt: &R,
-    alloc: Global,
-    recent: &Recent<N>,
-    serving: &Serving<'_>,
-) {
-    let consumers = serving.consumers;
-    let porter = JournalPorter {
-        rt,
-        alloc,
-        journal: &serving.observed.journal,
-        port: serving.concentrator.service_settings().session_port,
-        most: consumers.most,
-    };
-    let reception = Reception {
-        present: &serving.observed.signs.consumers,
-        seats: &consumers.seats,
-        porter: &porter,
-    };
-    serve(rt, alloc, recent, &consumers.listener, &reception);
-}
-
-/// Starts a thread that serves consumers, one after the other, and answers whether it was started.
-fn start_session<'s, E: 's, N: Naming + Send + 's, R: Wait + Clock + Sync + 's>(
-    scope: &'s Scope<'s, E>,
-    rt: &'s R,
-    alloc: Global,
-    recent: &'s Recent<N>,
-    serving: &'s Serving<'s>,
-) -> bool {
-    scope
-        .spawn(move || -> () { serve_consumers(rt, alloc, recent, serving) })
-        .is_ok()
-}
-
-/// Starts the threads that serve consumers, and answers whether all were started.
-fn start_sessions<'s, E: 's, N: Naming + Send + 's, R: Wait + Clock + Sync + 's>(
-    scope: &'s Scope<'s, E>,
-    rt: &'s R,
-    alloc: Global,
-    recent: &'s Recent<N>,
-    serving: &'s Serving<'s>,
-) -> bool {
-    for _ in 0..serving.consumers.most {
-        if !start_session(scope, rt, alloc, recent, serving) {
-            return false;
-        }
-    }
-    true
-}
-
-/// Starts the thread that prints what is told, and answers whether it was started.
-fn start_journal<'s, E: 's, R: Wait + Clock + Eprint + Sync + 's>(
-    scope: &'s Scope<'s, E>,
-    rt: &'s R,
-    journal: &'s Journal,
-) -> bool {
-    scope.spawn(move || -> () { journal.print_all(rt) }).is_ok()
-}
-
-/// Serves the counters until the run ends.
-fn serve_counters<R: Wait + Clock + RandomSource + OwnFiles>(
-    rt: &R,
-    alloc: Global,
-    listener: &TcpListener,
-    metered: Metered<'_>,
-    observed: &Observed,
-) {
-    if serve_metrics(rt, alloc, listener, metered, &observed.signs.has_ended).is_err() {
-        observed.journal.tell(
-            rt,
-            String::from_str(alloc, "the counters are no longer served"),
-        );
-    }
-}
-
-/// Starts the thread that serves the counters, where they are asked for, and answers whether it was started, or none is wanted.
-fn start_metrics<'s, E: 's, R: Wait + Clock + RandomSource + OwnFiles + Sync + 's>(
-    scope: &'s Scope<'s, E>,
-    rt: &'s R,
-    alloc: Global,
-    consumers: &'s Consumers,
-    observed: &'s Observed,
-) -> bool {
-    match (&consumers.metrics, observed.metered()) {
-        (Some(listener), Some(metered)) => {
-            scope
-                .spawn(move || -> () { serve_counters(rt, alloc, listener, metered, observed) })
-                .is_ok()
-        }
-        _ => true,
-    }
-}
-
-/// Starts the thread that writes the record, where there is one, and answers whether it was started, or none is wanted.
-fn start_record<'s, E: 's, R: Wait + Clock + Shelf + Sync + 's>(
-    scope: &'s Scope<'s, E>,
-    rt: &'s R,
-    alloc: Global,
-    record: Option<Series<'s>>,
-    observed: &'s Observed,
-) -> bool {
-    match (record, &observed.recording) {
-        (Some(series), Some(recording)) => {
-            scope
-                .spawn(move || -> () {
-                    write_record(rt, alloc, recording, series, &observed.journal)
-                })
-                .is_ok()
-        }
-        _ => true,
-    }
 }
 
 /// Where a run counts.

@@ -3,7 +3,7 @@
 use crate::about::{About, Unexplained};
 use crate::gap::{Gap, Hold};
 use crate::moments::instant_near;
-use crate::sections::{Held, Sections};
+use crate::sections::{Held, Sections, is_configuration};
 use crate::stories::Stories;
 use crate::story::{Arrived, Cell, Closed, Opened, RefusedConfig, Story, cells_of};
 use crate::wanted::Selection;
@@ -356,14 +356,6 @@ impl Followed {
                 self.sections.lay(&self.about, &config);
             }
         }
-    }
-}
-
-/// Whether bytes begin as a frame of CFG-1, CFG-2 or CFG-3 does.
-fn is_configuration(datagram: &[u8]) -> bool {
-    match datagram {
-        [0xAA, kind, ..] => matches!(*kind / 16, 2 | 3 | 5),
-        _ => false,
     }
 }
 

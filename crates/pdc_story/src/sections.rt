@@ -115,3 +115,11 @@ impl Sections {
         }
     }
 }
+
+/// Whether bytes begin as a frame of CFG-1, CFG-2 or CFG-3 does.
+pub(crate) fn is_configuration(datagram: &[u8]) -> bool {
+    match datagram {
+        [0xAA, kind, ..] => matches!(*kind / 16, 2 | 3 | 5),
+        _ => false,
+    }
+}
