@@ -14,30 +14,12 @@ use crate::own_stamp::own_stamp;
 use crate::placing::place_sections;
 use arrayvec::ArrayVec;
 use pdc_life::{
-    CfgFault, ConfigView, Frame, Kind, MergedNode, MergerSettings, Refusal, instant, read_config,
-    read_frame,
+    CfgFault, ConfigView, Frame, Kind, MergedNode, MergerSettings, Reading, Refusal, instant,
+    read_config, read_frame,
 };
 
 /// The nodes whose streams the merger takes.
 pub const NODES: usize = 2;
-
-/// What bytes say that arrived for a stream of the merger, before a configuration is read.
-#[derive(Clone, Copy, Debug)]
-pub enum Heard<'a> {
-    /// They are refused.
-    BytesRefused(Refusal),
-    /// A data frame of the stream.
-    Data {
-        /// The instant of its tag.
-        instant: u64,
-        /// Its time quality byte.
-        quality: u8,
-        /// What stands between FRACSEC and CHK.
-        payload: &'a [u8],
-    },
-    /// A CFG-2 frame of the stream, which [`arrival_from_node`] reads.
-    Configuration(Frame<'a>),
-}
 
 /// What bytes say that arrived for the stream with this number: 0 is node A's, 1 is node B's. It takes no memory.
 pub fn read_from_node<'a>(settings: &MergerSettings, stream: usize, bytes: &'a [u8]) -> Arrival<'a>
@@ -47,9 +29,13 @@ pub fn read_from_node<'a>(settings: &MergerSettings, stream: usize, bytes: &'a [
     arrival_from_node(settings, stream, hear_from_node(settings, stream, bytes))
 }
 
-/// The same in less room, before a configuration is read. It takes no memory.
+/// The same in less room: of a configuration it is the CFG-2 frame, which [`arrival_from_node`] reads. It takes no memory.
 #[inline]
-pub fn hear_from_node<'a>(settings: &MergerSettings, stream: usize, bytes: &'a [u8]) -> Heard<'a>
+pub fn hear_from_node<'a>(
+    settings: &MergerSettings,
+    stream: usize,
+    bytes: &'a [u8],
+) -> Reading<'a, Frame<'a>>
     requires { stream < NODES }
     ensures heard { HearsForMerger settings.now stream bytes.now result }
     ensures data { SaysData settings.now stream bytes.now result }
@@ -61,7 +47,7 @@ pub fn hear_from_node<'a>(settings: &MergerSettings, stream: usize, bytes: &'a [
 pub fn arrival_from_node<'a>(
     settings: &MergerSettings,
     stream: usize,
-    heard: Heard<'a>,
+    heard: Reading<'a, Frame<'a>>,
 ) -> Arrival<'a>
     requires { stream < NODES }
     ensures { (bytes : List ℕ) → HearsForMerger settings.now stream bytes heard.entry →
@@ -84,49 +70,57 @@ fn node_of(settings: &MergerSettings, stream: usize) -> &MergedNode
 
 /// What bytes say that came from this node, before a configuration is read.
 #[inline(always)]
-fn hear<'a>(settings: &MergerSettings, node: &MergedNode, bytes: &'a [u8]) -> Heard<'a>
+fn hear<'a>(settings: &MergerSettings, node: &MergedNode, bytes: &'a [u8]) -> Reading<'a, Frame<'a>>
     ensures { HearsFrom settings.now node.now bytes.now result }
 {
     let frame = match read_frame(bytes) {
         Ok(frame) => frame,
-        Err(fault) => return Heard::BytesRefused(Refusal::NoFrame(fault)),
+        Err(fault) => return Reading::BytesRefused(Refusal::NoFrame(fault)),
     };
     if frame.id.value != node.id.value {
-        return Heard::BytesRefused(Refusal::WrongId);
+        return Reading::BytesRefused(Refusal::WrongId);
     }
     match frame.kind {
         Kind::DataFrame => hear_data(settings, node, &frame),
-        Kind::Cfg2 => Heard::Configuration(frame),
-        _ => Heard::BytesRefused(Refusal::NoConfiguration(CfgFault::WrongKind)),
+        Kind::Cfg2 => Reading::Configuration(frame),
+        _ => Reading::BytesRefused(Refusal::NoConfiguration(CfgFault::WrongKind)),
     }
 }
 
 /// What a data frame of the node's stream says.
 #[inline(always)]
-fn hear_data<'a>(settings: &MergerSettings, node: &MergedNode, frame: &Frame<'a>) -> Heard<'a>
+fn hear_data<'a>(
+    settings: &MergerSettings,
+    node: &MergedNode,
+    frame: &Frame<'a>,
+) -> Reading<'a, Frame<'a>>
     ensures { (bytes : List ℕ) → IsOfStream (stream_from settings.now node.now) bytes
         (fields_of frame.now) → frame.now.kind ≡ DataFrame
         → HearsFrom settings.now node.now bytes result }
 {
     let rate = u32::from(settings.output.rate);
     match instant(frame.soc, frame.frac, node.time_base, rate) {
-        Some(instant) => Heard::Data {
+        Some(instant) => Reading::Data {
             instant,
             quality: frame.quality,
             payload: frame.payload,
         },
-        None => Heard::BytesRefused(Refusal::BadTag),
+        None => Reading::BytesRefused(Refusal::BadTag),
     }
 }
 
 /// What was heard from this node says this.
-fn arrival_of<'a>(settings: &MergerSettings, node: &MergedNode, heard: Heard<'a>) -> Arrival<'a>
+fn arrival_of<'a>(
+    settings: &MergerSettings,
+    node: &MergedNode,
+    heard: Reading<'a, Frame<'a>>,
+) -> Arrival<'a>
     ensures { (bytes : List ℕ) → HearsFrom settings.now node.now bytes heard.entry →
         ReadsFrom settings.now node.now bytes (arrival_view result) }
 {
     match heard {
-        Heard::BytesRefused(refusal) => Arrival::BytesRefused(refusal),
-        Heard::Data {
+        Reading::BytesRefused(refusal) => Arrival::BytesRefused(refusal),
+        Reading::Data {
             instant,
             quality,
             payload,
@@ -135,7 +129,7 @@ fn arrival_of<'a>(settings: &MergerSettings, node: &MergedNode, heard: Heard<'a>
             quality,
             payload,
         },
-        Heard::Configuration(frame) => read_configuration(settings, node, &frame),
+        Reading::Configuration(frame) => read_configuration(settings, node, &frame),
     }
 }
 

@@ -6,7 +6,7 @@ ghost use Rattle.pdc_arrival.specs.Views.{arrival_view, section_part};
 
 use crate::arrival::{Arrival, ColumnSection};
 use arrayvec::ArrayVec;
-use pdc_life::{MAX_PMUS, Reading, Settings, read_arrival};
+use pdc_life::{MAX_PMUS, Reading, SectionView, Settings, read_arrival};
 
 /// What bytes say that arrived for the PMU with this number. It takes no memory.
 pub fn read_from_pmu<'a>(settings: &Settings, stream: usize, bytes: &'a [u8]) -> Arrival<'a>
@@ -18,7 +18,11 @@ pub fn read_from_pmu<'a>(settings: &Settings, stream: usize, bytes: &'a [u8]) ->
 
 /// The same as it is read, in less room: a configuration is its one section. It takes no memory.
 #[inline]
-pub fn hear_from_pmu<'a>(settings: &Settings, stream: usize, bytes: &'a [u8]) -> Reading<'a>
+pub fn hear_from_pmu<'a>(
+    settings: &Settings,
+    stream: usize,
+    bytes: &'a [u8],
+) -> Reading<'a, SectionView<'a>>
     requires { stream < length settings.now.pmus.items }
     ensures { Says (OfNode settings.now) stream bytes.now (reading_view stream result) }
 {
@@ -26,7 +30,7 @@ pub fn hear_from_pmu<'a>(settings: &Settings, stream: usize, bytes: &'a [u8]) ->
 }
 
 /// What is read of a PMU, whose configuration is of its column.
-pub fn arrival_from_pmu<'a>(column: usize, reading: Reading<'a>) -> Arrival<'a>
+pub fn arrival_from_pmu<'a>(column: usize, reading: Reading<'a, SectionView<'a>>) -> Arrival<'a>
     ensures { arrival_view result ≡ reading_view column reading.entry }
 {
     match reading {

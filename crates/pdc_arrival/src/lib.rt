@@ -21,11 +21,11 @@ mod stamps;
 
 pub use arrival::{Arrival, ColumnSection, Stamp};
 pub use counts::Counts;
-pub use from_node::{Heard, NODES, arrival_from_node, hear_from_node, read_from_node};
+pub use from_node::{NODES, arrival_from_node, hear_from_node, read_from_node};
 pub use from_pmu::{arrival_from_pmu, hear_from_pmu, read_from_pmu};
 pub use own_block::{bears, body};
 pub use pdc_life::{
-    Body, Buffer, CAUSES, DueRow, MAX_PMUS, MergerSettings, OWN_BLOCK_LEN, Outcome, Output,
+    Body, Buffer, CAUSES, DueRow, Frame, MAX_PMUS, MergerSettings, OWN_BLOCK_LEN, Outcome, Output,
     Reading, Refusal, Section, SectionView, Settings, Shape, WaitKind, append_layout,
     causes_are_told_apart, cells_are_of_sections, numbers_rise, taken_is_in_time,
 };

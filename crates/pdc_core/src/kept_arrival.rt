@@ -134,7 +134,7 @@ impl KeptArrival {
     pub fn keep_reading(
         alloc: Global,
         column: usize,
-        reading: &Reading<'_>,
+        reading: &Reading<'_, SectionView<'_>>,
     ) -> Result<KeptArrival, AllocError>
         ensures same { IfOk result (λ taken. taken_view taken ≡ reading_view column reading.now) }
         ensures refused { OnErr result (WasRefused (wanted_of (reading_view column reading.now))) }

@@ -10,8 +10,8 @@ ghost use Rattle.pdc_align.specs.pdc_arrival.declared.from_node.TheConstants.{NO
 
 use crate::{KeptArrival, Payload};
 use pdc_align::{
-    Arrival, Heard, MergerSettings, Settings, arrival_from_node, hear_from_node, hear_from_pmu,
-    read_from_node, read_from_pmu,
+    Arrival, Frame, MergerSettings, Reading, Settings, arrival_from_node, hear_from_node,
+    hear_from_pmu, read_from_node, read_from_pmu,
 };
 use std::alloc::{AllocError, Global};
 
@@ -105,7 +105,7 @@ impl Reads for MergerSettings {
         bytes: &[u8],
     ) -> Result<KeptArrival, AllocError> {
         match hear_from_node(self, stream, bytes) {
-            Heard::Data {
+            Reading::Data {
                 instant,
                 quality,
                 payload,
@@ -125,7 +125,7 @@ fn keep_heard(
     settings: &MergerSettings,
     alloc: Global,
     stream: usize,
-    heard: Heard<'_>,
+    heard: Reading<'_, Frame<'_>>,
 ) -> Result<KeptArrival, AllocError>
     requires { stream < NODES }
     ensures { (bytes : List ℕ) → HearsForMerger settings.now stream bytes heard.entry →

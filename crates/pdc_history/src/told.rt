@@ -5,7 +5,7 @@ ghost use Rattle.pdc_history.specs.Told.{Tells, ToldView, told_in, told_view};
 ghost use Rattle.pdc_history.specs.declared.key.Key.{Key as KeyData};
 
 use crate::key::Key;
-use pdc_life::{Pmu, Reading, Settings, bytes_are_read_in_one_way, read_arrival};
+use pdc_life::{Pmu, Reading, SectionView, Settings, bytes_are_read_in_one_way, read_arrival};
 
 /// What a frame tells, and of what.
 #[derive(Clone, Copy, Debug)]
@@ -17,7 +17,7 @@ pub(crate) struct Told<'a> {
 }
 
 /// What is told by what was read.
-fn told_of<'a>(reading: Reading<'a>) -> Option<Told<'a>>
+fn told_of<'a>(reading: Reading<'a, SectionView<'a>>) -> Option<Told<'a>>
     ensures { option_map told_view result ≡ told_in (arrival_view 0 reading.entry) }
 {
     match reading {

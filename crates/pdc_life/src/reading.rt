@@ -12,12 +12,13 @@ use crate::outcome::Refusal;
 use crate::pmu::Pmu;
 use pdc_row::{CfgFault, ConfigView, Frame, Kind, SectionView, instant, read_config, read_frame};
 
-/// What bytes say that arrived for a PMU, whatever came before.
+/// What bytes say that arrived for a stream, whatever came before. `C` is what is read of a configuration: its one section where a
+/// PMU sent it, its frame where a node did.
 #[derive(Clone, Copy, Debug)]
-pub enum Reading<'a> {
+pub enum Reading<'a, C> {
     /// They are refused.
     BytesRefused(Refusal),
-    /// A data frame of the PMU's stream.
+    /// A data frame of the stream.
     Data {
         /// The instant of its tag.
         instant: u64,
@@ -26,12 +27,17 @@ pub enum Reading<'a> {
         /// What stands between FRACSEC and CHK.
         payload: &'a [u8],
     },
-    /// A valid configuration of the PMU: its one section.
-    Configuration(SectionView<'a>),
+    /// A configuration of the stream.
+    Configuration(C),
 }
 
-/// What bytes say that arrived for a PMU. It takes no memory: the payload and the section are lent from the bytes.
-pub fn read_arrival<'a>(settings: &Settings, pmu: &Pmu, bytes: &'a [u8]) -> Reading<'a>
+/// What bytes say that arrived for a PMU: of a valid configuration its one section. It takes no memory: the payload and the section
+/// are lent from the bytes.
+pub fn read_arrival<'a>(
+    settings: &Settings,
+    pmu: &Pmu,
+    bytes: &'a [u8],
+) -> Reading<'a, SectionView<'a>>
     // It is so for the PMU of any number: a configuration is of its column.
     ensures { (p : ℕ) → Reads settings.now p pmu.now bytes.now (arrival_view p result) }
 {
@@ -50,7 +56,7 @@ pub fn read_arrival<'a>(settings: &Settings, pmu: &Pmu, bytes: &'a [u8]) -> Read
 }
 
 /// What a data frame of the PMU's stream says.
-fn read_data<'a>(settings: &Settings, pmu: &Pmu, frame: &Frame<'a>) -> Reading<'a>
+fn read_data<'a>(settings: &Settings, pmu: &Pmu, frame: &Frame<'a>) -> Reading<'a, SectionView<'a>>
     ensures { (p : ℕ) (bytes : List ℕ) →
         IsOfStream (stream_of settings.now pmu.now) bytes (fields_of frame.now) →
         frame.now.kind ≡ DataFrame
@@ -69,7 +75,11 @@ fn read_data<'a>(settings: &Settings, pmu: &Pmu, frame: &Frame<'a>) -> Reading<'
 
 /// What a CFG-2 frame of the PMU's stream says. It is seldom, and so a call of its own, with a frame of its own: that of data stays in registers.
 #[inline(never)]
-fn read_configuration<'a>(settings: &Settings, pmu: &Pmu, frame: Frame<'a>) -> Reading<'a>
+fn read_configuration<'a>(
+    settings: &Settings,
+    pmu: &Pmu,
+    frame: Frame<'a>,
+) -> Reading<'a, SectionView<'a>>
     ensures { (p : ℕ) (bytes : List ℕ) →
         IsOfStream (stream_of settings.now pmu.now) bytes (fields_of frame.entry) →
         frame.entry.kind ≡ Cfg2
@@ -82,7 +92,11 @@ fn read_configuration<'a>(settings: &Settings, pmu: &Pmu, frame: Frame<'a>) -> R
 }
 
 /// What a configuration of the PMU's stream says.
-fn read_section<'a>(settings: &Settings, pmu: &Pmu, config: &ConfigView<'a>) -> Reading<'a>
+fn read_section<'a>(
+    settings: &Settings,
+    pmu: &Pmu,
+    config: &ConfigView<'a>,
+) -> Reading<'a, SectionView<'a>>
     ensures { (p : ℕ) (bytes : List ℕ) →
         HasConfig (stream_of settings.now pmu.now) bytes (config_fields_of config.now)
         → Reads settings.now p pmu.now bytes (arrival_view p result) }

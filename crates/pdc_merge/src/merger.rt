@@ -15,7 +15,7 @@ use crate::answering;
 use crate::layouts::HeldLayouts;
 use crate::opens::copy_of_merger;
 use pdc_align::{Alignment, Plan, Ticked, append_layout_frame};
-use pdc_arrival::{Arrival, Counts, Heard, arrival_from_node, hear_from_node};
+use pdc_arrival::{Arrival, Counts, Reading, arrival_from_node, hear_from_node};
 use pdc_core::Core;
 use pdc_frame::Buffer;
 use pdc_life::{MAX_PMUS, MergerSettings, Outcome, lives_are_runs, rows_have_tags};
@@ -172,7 +172,7 @@ impl<T: Table> Core for Merger<T> {
     /// Data is answered as it was read: an [`Arrival`] has room for all sections of a layout, and is made for configurations alone.
     fn put_datagram(&mut self, stream: usize, bytes: &[u8]) -> Outcome {
         match hear_from_node(&self.settings, stream, bytes) {
-            Heard::Data {
+            Reading::Data {
                 instant,
                 quality,
                 payload,

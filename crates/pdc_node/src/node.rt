@@ -20,7 +20,7 @@ use pdc_align::{Alignment, Plan, Ticked, append_layout_frame};
 use pdc_arrival::{Arrival, Counts, arrival_from_pmu, hear_from_pmu};
 use pdc_core::{Core, KeptArrival};
 use pdc_frame::Buffer;
-use pdc_life::{MAX_PMUS, Outcome, Reading, Settings, lives_are_runs, rows_have_tags};
+use pdc_life::{MAX_PMUS, Outcome, Reading, SectionView, Settings, lives_are_runs, rows_have_tags};
 use pdc_table::{DueRow, Table};
 use std::alloc::{AllocError, Global};
 use std::marker::Model;
@@ -153,7 +153,7 @@ impl<T: Table> Node<T> {
 
     /// Answers what was read of a datagram, whatever it is. It stands apart for the same reason.
     #[inline(never)]
-    fn arrive_read(&mut self, stream: usize, reading: Reading<'_>) -> Outcome
+    fn arrive_read(&mut self, stream: usize, reading: Reading<'_, SectionView<'_>>) -> Outcome
         requires { fits_node self.old.settings stream (reading_view stream reading) ≡ true }
         ensures answer { (g : Given) (E : List Entry) → StandsFor g E self.old →
             result ≡ (node_answer g E stream (reading_view stream reading.entry)).outcome }

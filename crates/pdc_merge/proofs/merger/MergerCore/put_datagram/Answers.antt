@@ -5,7 +5,8 @@ use Rattle.pdc_life.specs.Arrival.{Data}
 use Rattle.pdc_life.specs.CoreKind.{OfMerger, Says}
 use Rattle.pdc_arrival.specs.Heard.{SaysData}
 use Rattle.pdc_arrival.specs.Views.{arrival_view}
-use Rattle.pdc_arrival.specs.declared.from_node.Heard.{Heard}
+use Rattle.pdc_frame.specs.declared.frame.Frame.{Frame}
+use Rattle.pdc_life.specs.declared.reading.Reading.{Reading}
 use Rattle.pdc_merge.specs.Merger.{MergerView}
 use Rattle.pdc_merge.proofs.merger.MergerCore.put_datagram.Goals as goal
 
@@ -19,7 +20,7 @@ pub returns-in-Data-clause-hears : goal.returns-in-Data-clause-hears
 returns-in-Data-clause-hears g c =
     let said : Says (OfMerger c.args.self.now.settings) c.args.stream c.args.bytes.now (Data c.in-Data.instant c.in-Data.quality c.in-Data.payload.now) =
     subst (λ (m : MergerView). Says (OfMerger m.settings) c.args.stream c.args.bytes.now (Data c.in-Data.instant c.in-Data.quality c.in-Data.payload.now)) c.self.view_is
-    (subst (λ (h : Heard). SaysData c.self.inside.settings c.args.stream c.args.bytes.now h) c.in-Data.is c.hear_from_node.ensures.data) in
+    (subst (λ (h : Reading Frame). SaysData c.self.inside.settings c.args.stream c.args.bytes.now h) c.in-Data.is c.hear_from_node.ensures.data) in
     record {
       arrival = Data c.in-Data.instant c.in-Data.quality c.in-Data.payload.now;
       says = said;

@@ -3,6 +3,7 @@ use Rattle.pdc_life.specs.Arrival.{Arrival, Data}
 use Rattle.pdc_life.specs.CoreKind.{OfNode, Says}
 use Rattle.pdc_life.specs.Views.{arrival_view as reading_view}
 use Rattle.pdc_life.specs.declared.reading.Reading.{Reading}
+use Rattle.pdc_cfg.specs.declared.section.SectionView.{SectionView}
 use Rattle.pdc_node.specs.Node.{NodeView}
 use Rattle.pdc_node.proofs.node.NodeCore.put_datagram.Goals as goal
 
@@ -13,7 +14,7 @@ read_by n m p bytes arrival e reads = subst (λ (v : NodeView). Says (OfNode v.s
 pub returns-in-Data-clause-hears : goal.returns-in-Data-clause-hears
 returns-in-Data-clause-hears g c =
     let said : Says (OfNode c.args.self.now.settings) c.args.stream c.args.bytes.now (Data c.in-Data.instant c.in-Data.quality c.in-Data.payload.now) =
-    subst (λ (r : Reading). Says (OfNode c.args.self.now.settings) c.args.stream c.args.bytes.now (reading_view c.args.stream r)) c.in-Data.is (read_by _ _ c.args.stream c.args.bytes.now (reading_view c.args.stream c.hear_from_pmu.result) c.self.view_is c.hear_from_pmu.ensures) in
+    subst (λ (r : Reading SectionView). Says (OfNode c.args.self.now.settings) c.args.stream c.args.bytes.now (reading_view c.args.stream r)) c.in-Data.is (read_by _ _ c.args.stream c.args.bytes.now (reading_view c.args.stream c.hear_from_pmu.result) c.self.view_is c.hear_from_pmu.ensures) in
     record {
       arrival = Data c.in-Data.instant c.in-Data.quality c.in-Data.payload.now;
       says = said;
