@@ -8,6 +8,7 @@ use Rattle.pdc_core.specs.declared.kept_arrival.KeptArrival.{KeptArrival as Kept
 use Rattle.pdc_core.specs.declared.kept_arrival.KeptArrival.TheVariants as taken
 use Rattle.pdc_align.specs.pdc_life.Arrival.{Arrival, BytesRefused, Data, Layout}
 use Rattle.pdc_align.specs.pdc_arrival.Views.{stamp_view}
+use Rattle.pdc_memory.specs.Asking.{WasRefused}
 
 abbrev pub bytes_of : Payload → List ℕ
 bytes_of (payload.Short bytes) = bytes.items
@@ -32,3 +33,7 @@ abbrev pub wanted_of : Arrival → ℕ
 wanted_of (BytesRefused refusal) = 0
 wanted_of (Data instant quality payload) = length payload
 wanted_of (Layout stamp sections) = length sections
+
+-- In this call a request was refused of as many as a copy of an arrival asks for of which this is so.
+abbrev pub CopyWasRefused : (Arrival → Type 0) → Type 0
+CopyWasRefused IsSaid = (arrival : Arrival) × IsSaid arrival × WasRefused (wanted_of arrival)

@@ -1,8 +1,8 @@
 //! Settings by which bytes are read.
-ghost use Rattle.std.specs.Prelude.{◌≡◌, ◌<◌, ℕ, Bool, IfOk, List, length, true};
+ghost use Rattle.std.specs.Prelude.{◌≡◌, ◌<◌, ℕ, Bool, IfOk, List, OnErr, length, true};
 ghost use Rattle.pdc_core.specs.Fits.{fits_merger, fits_node};
 ghost use Rattle.pdc_align.specs.pdc_arrival.Heard.{HearsForMerger};
-ghost use Rattle.pdc_core.specs.KeptArrival.{taken_view};
+ghost use Rattle.pdc_core.specs.KeptArrival.{CopyWasRefused, taken_view};
 ghost use Rattle.pdc_align.specs.pdc_life.Arrival.{Arrival};
 ghost use Rattle.pdc_align.specs.pdc_life.CoreKind.{OfMerger, OfNode, Says};
 ghost use Rattle.pdc_align.specs.pdc_arrival.Views.{arrival_view};
@@ -48,10 +48,7 @@ pub trait Reads {
         requires { stream < streams self.now }
         ensures says { IfOk result (λ taken. says self.now stream bytes.now (taken_view taken)) }
         ensures fits { IfOk result (λ taken. fits self.now stream (taken_view taken) ≡ true) }
-    {
-        let arrival = self.read(stream, bytes);
-        KeptArrival::keep(alloc, &arrival)
-    }
+        ensures refused { OnErr result (CopyWasRefused (says self.now stream bytes.now)) };
 }
 
 /// A node's: a stream comes from each PMU.
@@ -128,8 +125,10 @@ fn keep_heard(
     heard: Reading<'_, Frame<'_>>,
 ) -> Result<KeptArrival, AllocError>
     requires { stream < NODES }
-    ensures { (bytes : List ℕ) → HearsForMerger settings.now stream bytes heard.entry →
+    ensures says { (bytes : List ℕ) → HearsForMerger settings.now stream bytes heard.entry →
         IfOk result (λ taken. Says (OfMerger settings.now) stream bytes (taken_view taken)) }
+    ensures refused { (bytes : List ℕ) → HearsForMerger settings.now stream bytes heard.entry →
+        OnErr result (CopyWasRefused (Says (OfMerger settings.now) stream bytes)) }
 {
     let arrival = arrival_from_node(settings, stream, heard);
     KeptArrival::keep(alloc, &arrival)

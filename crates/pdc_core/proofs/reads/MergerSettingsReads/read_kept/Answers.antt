@@ -14,6 +14,7 @@ fitting settings s bytes (Err fault) said = said
 
 pub returns-in_default : goal.returns-in_default
 returns-in_default c = record {
-  says = c.keep_heard.ensures c.args.bytes.now c.hear_from_node.ensures.heard;
-  fits = fitting c.args.self.now c.args.stream c.args.bytes.now c.keep_heard.result (c.keep_heard.ensures c.args.bytes.now c.hear_from_node.ensures.heard);
+  says = c.keep_heard.ensures.says c.args.bytes.now c.hear_from_node.ensures.heard;
+  fits = fitting c.args.self.now c.args.stream c.args.bytes.now c.keep_heard.result (c.keep_heard.ensures.says c.args.bytes.now c.hear_from_node.ensures.heard);
+  refused = c.keep_heard.ensures.refused c.args.bytes.now c.hear_from_node.ensures.heard;
 }
