@@ -15,7 +15,7 @@ use crate::intake::{Inlet, Intake};
 use crate::ledgers::Ledgers;
 use crate::naming::Naming;
 use crate::shares::Shares;
-use pdc_core::{Core, KeptArrival, Reads};
+use pdc_core::{Core, Reads};
 use pdc_life::Outcome;
 use pdc_log::Front;
 use pdc_ports::{Next, Numbered, Source};
@@ -62,7 +62,7 @@ fn hand_in<C: Core + Drop, N: Naming<C::Settings>, R: Wait>(
     ensures causes { IfErr result IsOfDelivery }
     ensures err { OnErr result (AreAsBefore shares.old shares.new) }
 {
-    match KeptArrival::keep(alloc, &intake.settings.read(stream, bytes)) {
+    match intake.settings.read_kept(alloc, stream, bytes) {
         Ok(datagram) => intake.hub.deliver(rt, stream, bytes, datagram, shares),
         Err(_) => Err(HubFault::NoMemory),
     }

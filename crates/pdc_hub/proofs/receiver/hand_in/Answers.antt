@@ -1,4 +1,4 @@
-use Rattle.pdc_core.specs.KeptArrival.{taken_view}
+use Rattle.pdc_core.specs.KeptArrival.{taken_view, wanted_of}
 use Rattle.pdc_hub.proofs.Receiving.{of_delivery, was_brought}
 use Rattle.pdc_hub.proofs.receiver.hand_in.Goals as goal
 
@@ -8,3 +8,6 @@ returns-in-Ok-clause-answer g c =
 
 pub returns-in-Ok-clause-causes : goal.returns-in-Ok-clause-causes
 returns-in-Ok-clause-causes g c = of_delivery c.deliver.result c.deliver.ensures.causes
+
+pub returns-in-Err-clause-causes : goal.returns-in-Err-clause-causes
+returns-in-Err-clause-causes g c = ∣ (wanted_of c.in-Err.ensures.refused.0, c.in-Err.ensures.refused.2) ∣₁
