@@ -43,6 +43,7 @@ const EXAMPLES: &str = "Examples:
   pdc explain a.record.* 2026-11-24T12:03:04.580Z
                               explain what happened to each PMU at an instant
   pdc help show               print the full help of a command
+  pdc help settings           print each key of a settings file
 
 Exit status: 0 done, 1 input was refused, 2 wrong arguments, 3 a device failed or memory ran out";
 

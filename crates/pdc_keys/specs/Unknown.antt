@@ -5,6 +5,8 @@ use Rattle.toml.specs.Data.{Items, no_items, item, Members, no_members, member, 
 use Rattle.pdc_keys.specs.Keys.{items_at}
 use Rattle.pdc_keys.specs.Known.{merged_node_keys, merged_pmu_keys, pmu_keys, top_keys}
 use Rattle.pdc_keys.specs.Near.{nearest_of}
+use Rattle.pdc_keys.specs.declared.owner.KeyTable.{KeyTable}
+use Rattle.pdc_keys.specs.declared.owner.KeyTable.TheVariants.{MergedPmu, NodePmu}
 use Rattle.pdc_keys.specs.declared.unknown.TableName.{TableName}
 use Rattle.pdc_keys.specs.declared.unknown.TableName.TheVariants.{Top, Pmu, Node}
 use Rattle.pdc_keys.specs.declared.unknown.UnknownKey.{UnknownKey}
@@ -49,6 +51,10 @@ unknown_from place known number (item value values) = unknown_among (place numbe
 -- the known keys of a PMU: a merger's has one
 abbrev pub known_of_pmu : Members → List (List ℕ)
 known_of_pmu members = if is_some (get_member (codes "node") members) then merged_pmu_keys else pmu_keys
+
+-- the kind of table that it is so
+abbrev pub kind_of_pmu : Members → KeyTable
+kind_of_pmu members = if is_some (get_member (codes "node") members) then MergedPmu else NodePmu
 
 -- those of a document: at the top, then in the tables of the nodes, then in those of the PMUs
 abbrev pub unknown_in : Members → List UnknownFields

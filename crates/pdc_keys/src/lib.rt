@@ -6,23 +6,29 @@
 #![tactic(auto)]
 
 mod finding;
+mod key;
 mod keys;
-mod known;
 mod limits;
 mod nearest;
+mod owner;
 mod places;
+mod table;
 mod text;
 mod unknown;
 mod unread;
 mod wanted;
 
 pub use finding::unknown_keys_in;
+pub use key::{Key, Range, Usual, Values};
 pub use keys::{
-    number, number_in, number_or, optional_number, optional_number_of, value_at, values_at,
+    number, number_from, number_of, number_or, optional_number, optional_number_of,
+    optional_number_to, value_at, values_at,
 };
 pub use limits::{MAX_COUNT, MAX_PORT, MAX_TIME_BASE, MILLISECONDS};
+pub use owner::Owner;
 pub use pdc_memory::make_room;
 pub use places::{ip_of, place_of};
+pub use table::all_keys;
 pub use unknown::{TableName, UnknownKey};
 pub use unread::Unread;
-pub use wanted::{Owner, Wanted};
+pub use wanted::Wanted;

@@ -1,8 +1,11 @@
 //! Which known name is nearest to one that is not known.
-ghost use Rattle.std.specs.Prelude.{◌≡◌, IfOk, OnErr, map, option_map};
+ghost use Rattle.std.specs.Prelude.{◌≡◌, IfOk, OnErr, option_map};
 ghost use Rattle.pdc_keys.specs.Near.{edits, is_near, is_slip, nearer, nearest_of};
+ghost use Rattle.pdc_keys.specs.Table.{names_in};
 ghost use Rattle.pdc_keys.specs.Wanting.{EditsWanted, SomeEditsWanted};
 
+use crate::owner::KeyTable;
+use crate::wanted::Wanted;
 use std::alloc::{AllocError, Global};
 use strsim::osa_distance;
 
@@ -56,20 +59,25 @@ fn nearer(
     }
 }
 
-/// The nearest of those that are near.
+/// The nearest of those that are near, among the keys that are read in a table of this kind.
 pub(crate) fn nearest_of(
     alloc: Global,
     key: &str,
-    names: &[&'static str],
+    table: KeyTable,
+    keys: &[Wanted],
 ) -> Result<Option<&'static str>, AllocError>
     ensures nearest { IfOk result (λ found. option_map (λ n. n.now) found ≡
-        nearest_of key.now (map (λ n. n.now) names.now)) }
+        nearest_of key.now (names_in table keys.now)) }
     ensures wanted { OnErr result SomeEditsWanted }
 {
-    let Some((name, others)) = names.split_first() else {
+    let Some((first, others)) = keys.split_first() else {
         return Ok(None);
     };
-    let found = nearest_of(alloc, key, others)?;
+    let found = nearest_of(alloc, key, table, others)?;
+    if !first.owner().stands_in(table) {
+        return Ok(found);
+    }
+    let name = first.key();
     if is_near(alloc, key, name)? {
         nearer(alloc, key, name, found)
     } else {

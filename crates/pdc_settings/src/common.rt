@@ -8,12 +8,9 @@ ghost use Rattle.pdc_settings.specs.Common.{tick_named, wait_kind_in, wait_kind_
 ghost use Rattle.pdc_settings.specs.Settings.{IsCommon};
 
 use crate::service::{Service, TickWhen};
-use pdc_frame::{MAX_ID, MAX_RATE, StreamId};
-use pdc_keys::{
-    MAX_PORT, MAX_TIME_BASE, MILLISECONDS, Wanted, number, number_or, optional_number, value_at,
-};
-use pdc_life::{MAX_AHEAD, MAX_WAIT, MAX_WINDOW, MIN_WINDOW, Timing, WaitKind};
-use pdc_publisher::MAX_LEAD;
+use pdc_frame::StreamId;
+use pdc_keys::{Wanted, number, number_from, number_or, optional_number_to, value_at};
+use pdc_life::{Timing, WaitKind};
 use pdc_row::{Nominal, Output};
 use toml::Table;
 
@@ -31,7 +28,7 @@ fn nominal(table: &Table) -> Result<Nominal, Wanted>
     ensures some { IfOk result (λ n. nominal_in (table_view table.now) ≡ Some n) }
     ensures none { OnErr result (nominal_in (table_view table.now) ≡ None) }
 {
-    let hertz = number(table, "nominal", 50, 60, Wanted::Nominal)?;
+    let hertz = number(table, Wanted::Nominal)?;
     match nominal_of(hertz) {
         Some(nominal) => Ok(nominal),
         None => Err(Wanted::Nominal),
@@ -54,7 +51,7 @@ fn wait_kind_named(name: &str) -> Option<WaitKind>
 fn wait_kind(table: &Table) -> Option<WaitKind>
     ensures { result ≡ wait_kind_in (table_view table.now) }
 {
-    match value_at(table, "wait_kind") {
+    match value_at(table, Wanted::WaitKind) {
         Some(value) => match value.as_str() {
             Some(name) => wait_kind_named(name),
             None => None,
@@ -69,11 +66,10 @@ fn output(table: &Table) -> Result<Output, Wanted>
     ensures some { OnOk result (has_output (table_view table.now) ≡ true) }
     ensures none { OnErr result (has_output (table_view table.now) ≡ false) }
 {
-    let id = number(table, "id", 1, u64::from(MAX_ID), Wanted::Id)?;
-    let rate = number(table, "rate", 1, u64::from(MAX_RATE), Wanted::Rate)?;
+    let id = number(table, Wanted::Id)?;
+    let rate = number(table, Wanted::Rate)?;
     let nominal = nominal(table)?;
-    let most = u64::from(MAX_TIME_BASE);
-    let time_base = number(table, "time_base", rate, most, Wanted::TimeBase)?;
+    let time_base = number_from(table, Wanted::TimeBase, rate)?;
     Ok(Output {
         id: StreamId { value: id as u16 },
         rate: rate as u16,
@@ -88,12 +84,12 @@ fn timing(table: &Table) -> Result<Timing, Wanted>
     ensures some { OnOk result (has_timing (table_view table.now) ≡ true) }
     ensures none { OnErr result (has_timing (table_view table.now) ≡ false) }
 {
-    let wait = number(table, "wait", 1, MAX_WAIT, Wanted::Wait)?;
+    let wait = number(table, Wanted::Wait)?;
     let Some(wait_kind) = wait_kind(table) else {
         return Err(Wanted::WaitKind);
     };
-    let window = number(table, "window", MIN_WINDOW, MAX_WINDOW, Wanted::Window)?;
-    let ahead = number(table, "ahead", 0, MAX_AHEAD, Wanted::Ahead)?;
+    let window = number(table, Wanted::Window)?;
+    let ahead = number(table, Wanted::Ahead)?;
     Ok(Timing {
         wait,
         wait_kind,
@@ -118,7 +114,7 @@ fn tick_named(name: &str) -> Option<TickWhen>
 fn tick(table: &Table) -> Option<TickWhen>
     ensures { result ≡ tick_in (table_view table.now) }
 {
-    match value_at(table, "tick") {
+    match value_at(table, Wanted::Tick) {
         Some(value) => match value.as_str() {
             Some(name) => tick_named(name),
             None => None,
@@ -132,8 +128,8 @@ fn tick_ms(table: &Table, rate: u16) -> Option<Option<u16>>
     requires { 1 ≤ rate }
     ensures { result ≡ tick_ms_of rate (table_view table.now) }
 {
-    let most = (MILLISECONDS - 1) / rate;
-    optional_number(table, "tick_ms", 0, most)
+    let most = Wanted::TickMs.most() as u16 / rate;
+    optional_number_to(table, Wanted::TickMs, most)
 }
 
 /// What the running program does with the rows and frames, of which it publishes so many in a second.
@@ -144,13 +140,12 @@ fn service(table: &Table, rate: u16) -> Result<Service, Wanted>
     ensures some { OnOk result (has_service (table_view table.now) ≡ true) }
     ensures none { OnErr result (has_service (table_view table.now) ≡ false) }
 {
-    let most = u64::from(MAX_PORT);
-    let Some(lead) = number_or(table, "lead", 0, 0, u64::from(MAX_LEAD)) else {
+    let Some(lead) = number_or(table, Wanted::Lead) else {
         return Err(Wanted::Lead);
     };
-    let layout_every = number(table, "layout_every", 1, most, Wanted::LayoutEvery)?;
-    let out_port = number(table, "out_port", 1, most, Wanted::OutPort)?;
-    let session_port = number(table, "session_port", 1, most, Wanted::SessionPort)?;
+    let layout_every = number(table, Wanted::LayoutEvery)?;
+    let out_port = number(table, Wanted::OutPort)?;
+    let session_port = number(table, Wanted::SessionPort)?;
     let Some(tick) = tick(table) else {
         return Err(Wanted::Tick);
     };

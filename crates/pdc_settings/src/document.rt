@@ -7,7 +7,7 @@ ghost use Rattle.pdc_settings.specs.Kind.{IsNoDocument, is_merger};
 ghost use Rattle.pdc_settings.specs.Wanting.{IsTomlWant};
 
 use crate::fault::SettingsFault;
-use pdc_keys::{UnknownKey, unknown_keys_in, value_at};
+use pdc_keys::{UnknownKey, Wanted, unknown_keys_in, value_at};
 use std::alloc::{AllocError, Global};
 use toml::Table;
 
@@ -22,7 +22,7 @@ pub struct Document {
 pub(crate) fn is_merger(table: &Table) -> bool
     ensures { result ≡ is_merger (table_view table.now) }
 {
-    match value_at(table, "node") {
+    match value_at(table, Wanted::Nodes) {
         Some(_) => true,
         None => false,
     }

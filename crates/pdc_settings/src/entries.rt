@@ -6,8 +6,8 @@ ghost use Rattle.pdc_frame.specs.declared.limits.TheConstants.{MAX_ID};
 ghost use Rattle.pdc_settings.specs.Entries.{node_fields, node_in, pmu_fields, pmu_in, port_in};
 ghost use Rattle.pdc_settings.specs.Entries.{port_of, source_of};
 
-use pdc_frame::{MAX_ID, StreamId};
-use pdc_keys::{MAX_PORT, MAX_TIME_BASE, Wanted, number, number_in, value_at};
+use pdc_frame::StreamId;
+use pdc_keys::{Wanted, number, number_from, number_of, value_at};
 use pdc_life::{MergedNode, Pmu};
 use toml::{Table, Value};
 
@@ -16,13 +16,14 @@ fn port(table: &Table, wanted: Wanted) -> Result<u16, Wanted>
     ensures value { IfOk result (λ n. port_in (table_view table.now) ≡ Some n) }
     ensures none { OnErr result (port_in (table_view table.now) ≡ None) }
 {
-    match value_at(table, "tcp") {
-        Some(_) => match value_at(table, "port") {
+    match value_at(table, Wanted::Tcp) {
+        Some(_) => match value_at(table, Wanted::PmuPort) {
             Some(_) => Err(Wanted::Tcp),
             None => Ok(0),
         },
         None => {
-            let port = number(table, "port", 1, u64::from(MAX_PORT), wanted)?;
+            // The lines of both ports have one name and one range.
+            let port = number(table, Wanted::PmuPort).or(Err(wanted))?;
             Ok(port as u16)
         }
     }
@@ -47,8 +48,8 @@ fn source(table: &Table, stream: u64) -> Option<u64>
     ensures low { IfSome result (λ n. 1 ≤ n) }
     ensures high { IfSome result (λ n. n ≤ MAX_ID) }
 {
-    match value_at(table, "source") {
-        Some(value) => number_in(value, 1, u64::from(MAX_ID)),
+    match value_at(table, Wanted::PmuSource) {
+        Some(value) => number_of(value, Wanted::PmuSource),
         None => Some(stream),
     }
 }
@@ -60,18 +61,11 @@ pub(crate) fn read_pmu(table: &Table, rate: u16) -> Result<Pmu, Wanted>
     ensures none { OnErr result (pmu_in rate (table_view table.now) ≡ None) }
     ensures base { IfOk result (λ pmu. rate ≤ pmu.time_base) }
 {
-    let stream = number(table, "stream", 1, u64::from(MAX_ID), Wanted::PmuStream)?;
+    let stream = number(table, Wanted::PmuStream)?;
     let Some(source) = source(table, stream) else {
         return Err(Wanted::PmuSource);
     };
-    let most = u64::from(MAX_TIME_BASE);
-    let time_base = number(
-        table,
-        "time_base",
-        u64::from(rate),
-        most,
-        Wanted::PmuTimeBase,
-    )?;
+    let time_base = number_from(table, Wanted::PmuTimeBase, u64::from(rate))?;
     Ok(Pmu {
         stream: StreamId {
             value: stream as u16,
@@ -88,15 +82,8 @@ pub(crate) fn read_node(table: &Table, rate: u16) -> Result<MergedNode, Wanted>
     ensures none { OnErr result (node_in rate (table_view table.now) ≡ None) }
     ensures base { IfOk result (λ node. rate ≤ node.time_base) }
 {
-    let id = number(table, "id", 1, u64::from(MAX_ID), Wanted::NodeId)?;
-    let most = u64::from(MAX_TIME_BASE);
-    let time_base = number(
-        table,
-        "time_base",
-        u64::from(rate),
-        most,
-        Wanted::NodeTimeBase,
-    )?;
+    let id = number(table, Wanted::NodeId)?;
+    let time_base = number_from(table, Wanted::NodeTimeBase, u64::from(rate))?;
     Ok(MergedNode {
         id: StreamId { value: id as u16 },
         time_base: time_base as u32,

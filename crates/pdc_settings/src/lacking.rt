@@ -10,8 +10,8 @@ use std::alloc::Global;
 use toml::{Table, Value};
 
 /// The tables at a key, none where it is left out or no list.
-fn listed<'t>(table: &'t Table, key: &str) -> &'t [Value] {
-    match values_at(table, key) {
+fn listed<'t>(table: &'t Table, wanted: Wanted) -> &'t [Value] {
+    match values_at(table, wanted) {
         Some(values) => values,
         None => &[],
     }
@@ -21,16 +21,16 @@ fn listed<'t>(table: &'t Table, key: &str) -> &'t [Value] {
 pub(crate) fn tables_of(table: &Table, owner: Owner) -> &[Value] {
     match owner {
         Owner::Settings => &[],
-        Owner::Pmu => listed(table, "pmu"),
-        Owner::Node => listed(table, "node"),
+        Owner::Pmu | Owner::EachPmu => listed(table, Wanted::Pmus),
+        Owner::Node => listed(table, Wanted::Nodes),
         Owner::Stream => streams_of(table),
     }
 }
 
 /// Whether a table has a key.
-pub(crate) fn has_key(value: &Value, key: &str) -> bool {
+pub(crate) fn has_key(value: &Value, wanted: Wanted) -> bool {
     match value.as_table() {
-        Some(table) => value_at(table, key).is_some(),
+        Some(table) => value_at(table, wanted).is_some(),
         None => false,
     }
 }
@@ -75,7 +75,7 @@ fn is_wrong(alloc: Global, value: &Value, wanted: Wanted, rate: u16, of_merger: 
 
 /// The rate of a document: 0 where it has none.
 fn rate_of(table: &Table) -> u16 {
-    match number(table, "rate", 1, 240, Wanted::Rate) {
+    match number(table, Wanted::Rate) {
         Ok(rate) => rate as u16,
         Err(_) => 0,
     }

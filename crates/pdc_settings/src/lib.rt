@@ -34,5 +34,5 @@ pub use merger::MergerSettings;
 pub use mistake::{Mistake, doubled_port_in, mistake_in};
 pub use network::{MAX_OUTPUTS, Network};
 pub use node::NodeSettings;
-pub use pdc_keys::{MAX_PORT, MAX_TIME_BASE, TableName, UnknownKey, Wanted};
+pub use pdc_keys::{Key, MAX_PORT, MAX_TIME_BASE, TableName, UnknownKey, Wanted, all_keys};
 pub use service::{Service, TickWhen};

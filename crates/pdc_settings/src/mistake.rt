@@ -2,6 +2,7 @@
 ghost use Rattle.std.specs.Prelude.{◌≡◌};
 ghost use Rattle.toml.specs.Data.{get_member};
 ghost use Rattle.toml.specs.View.{table_view};
+ghost use Rattle.pdc_keys.specs.Table.{name_of};
 ghost use Rattle.pdc_settings.specs.Mistake.{at_top};
 
 use crate::document::is_merger;
@@ -83,10 +84,10 @@ fn line_of(bytes: &[u8], at: usize) -> usize {
 }
 
 /// What of a key in front of all tables is wrong.
-fn at_top(table: &Table, key: &str, wanted: Wanted) -> Mistake
-    ensures { result ≡ at_top (get_member key.now (table_view table.now)) wanted }
+fn at_top(table: &Table, wanted: Wanted) -> Mistake
+    ensures { result ≡ at_top (get_member (name_of wanted) (table_view table.now)) wanted }
 {
-    match value_at(table, key) {
+    match value_at(table, wanted) {
         Some(_) => Mistake::OutOfRange(TableName::Top, wanted),
         None => Mistake::Missing(TableName::Top, wanted),
     }
@@ -96,7 +97,7 @@ fn at_top(table: &Table, key: &str, wanted: Wanted) -> Mistake
 fn name_of(table: &Table, owner: Owner, number: usize) -> TableName {
     match owner {
         Owner::Settings => TableName::Top,
-        Owner::Pmu => TableName::Pmu(number),
+        Owner::Pmu | Owner::EachPmu => TableName::Pmu(number),
         Owner::Node => TableName::Node(number),
         Owner::Stream => {
             if is_merger(table) {
@@ -118,7 +119,7 @@ fn in_tables(alloc: Global, table: &Table, wanted: Wanted) -> Mistake {
     let name = name_of(table, owner, at.saturating_add(1));
     match values.get(at) {
         Some(value) => {
-            if has_key(value, wanted.key()) {
+            if has_key(value, wanted) {
                 Mistake::OutOfRange(name, wanted)
             } else {
                 Mistake::Missing(name, wanted)
@@ -131,7 +132,7 @@ fn in_tables(alloc: Global, table: &Table, wanted: Wanted) -> Mistake {
 /// What of a key is wrong.
 fn at_key(alloc: Global, table: &Table, wanted: Wanted) -> Mistake {
     match wanted.owner() {
-        Owner::Settings => at_top(table, wanted.key(), wanted),
+        Owner::Settings => at_top(table, wanted),
         _ => in_tables(alloc, table, wanted),
     }
 }

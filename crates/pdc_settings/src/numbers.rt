@@ -22,7 +22,7 @@ fn push(numbers: &mut Numbers, key: NumberKey, number: u16) -> Result<(), AllocE
 
 /// The tables of the PMUs.
 fn pmu_tables(table: &Table) -> &[Value] {
-    match values_at(table, "pmu") {
+    match values_at(table, Wanted::Pmus) {
         Some(values) => values,
         None => &[],
     }
@@ -33,7 +33,7 @@ fn source_key(values: &[Value], at: usize) -> NumberKey {
     let table = TableName::Pmu(at.saturating_add(1));
     match values.get(at) {
         Some(value) => {
-            if has_key(value, "source") {
+            if has_key(value, Wanted::PmuSource) {
                 NumberKey::SourceOf(table)
             } else {
                 NumberKey::StreamOf(table)

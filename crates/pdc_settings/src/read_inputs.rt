@@ -9,12 +9,13 @@ ghost use Rattle.pdc_settings.specs.Inputs.{tcp_of};
 ghost use Rattle.pdc_settings.specs.Network.{fault_at};
 ghost use Rattle.pdc_keys.specs.pdc_memory.Asking.{SomeWasRefused};
 ghost use Rattle.pdc_keys.specs.Places.{IsUnread, as_place};
+ghost use Rattle.pdc_keys.specs.Table.{name_of};
 
 use crate::document::is_merger;
 use crate::fault::SettingsFault;
 use crate::input::Input;
 use pdc_keys::{
-    MAX_COUNT, Unread, Wanted, ip_of, make_room, optional_number_of, place_of, value_at, values_at,
+    Unread, Wanted, ip_of, make_room, optional_number_of, place_of, value_at, values_at,
 };
 use std::alloc::Global;
 use std::net::IpAddr;
@@ -24,19 +25,23 @@ use toml::{Table, Value};
 pub(crate) fn streams_of(table: &Table) -> &[Value]
     ensures { items_view result.now ≡ streams_in (table_view table.now) }
 {
-    let key = if is_merger(table) { "node" } else { "pmu" };
-    match values_at(table, key) {
+    let streams = if is_merger(table) {
+        Wanted::Nodes
+    } else {
+        Wanted::Pmus
+    };
+    match values_at(table, streams) {
         Some(values) => values,
         None => &[],
     }
 }
 
 /// The value at a key of one of them.
-fn at_key<'t>(value: &'t Value, key: &str) -> Option<&'t Value>
-    ensures { option_map (λ v. view v.now) result ≡ at_key key.now (view value.now) }
+fn at_key<'t>(value: &'t Value, wanted: Wanted) -> Option<&'t Value>
+    ensures { option_map (λ v. view v.now) result ≡ at_key (name_of wanted) (view value.now) }
 {
     match value.as_table() {
-        Some(table) => value_at(table, key),
+        Some(table) => value_at(table, wanted),
         None => None,
     }
 }
@@ -62,7 +67,7 @@ fn tcp_place(alloc: Global, value: &Value) -> Result<Option<String>, Unread>
     ensures fault { IfErr result (IsUnread (tcp_of (view value.now) ≡ None)) }
     ensures refused { IsErrOf result Unread.NoMemory → SomeWasRefused }
 {
-    match at_key(value, "tcp") {
+    match at_key(value, Wanted::Tcp) {
         Some(text) => some_place(alloc, text),
         None => Ok(None),
     }
@@ -75,8 +80,8 @@ fn commands_place(alloc: Global, value: &Value) -> Result<Option<String>, Unread
     ensures fault { IfErr result (IsUnread (commands_of (view value.now) ≡ None)) }
     ensures refused { IsErrOf result Unread.NoMemory → SomeWasRefused }
 {
-    match at_key(value, "commands") {
-        Some(text) => match at_key(value, "tcp") {
+    match at_key(value, Wanted::Commands) {
+        Some(text) => match at_key(value, Wanted::Tcp) {
             Some(_) => Err(Unread::NoPlace),
             None => some_place(alloc, text),
         },
@@ -89,8 +94,8 @@ fn from_of(value: &Value) -> Result<Option<IpAddr>, Wanted>
     ensures value { IfOk result (HasFrom (view value.now)) }
     ensures none { OnErr result ((from : Option IpAddr) → HasFrom (view value.now) from → ⊥) }
 {
-    match at_key(value, "from") {
-        Some(text) => match at_key(value, "tcp") {
+    match at_key(value, Wanted::From) {
+        Some(text) => match at_key(value, Wanted::Tcp) {
             Some(_) => Err(Wanted::From),
             None => match ip_of(text) {
                 Some(ip) => Ok(Some(ip)),
@@ -155,7 +160,7 @@ fn most_count_of(value: &Value) -> Result<Option<u16>, SettingsFault>
     ensures fault { IfErr result (λ fault. IsNoInput fault (view value.now)) }
     ensures refused { IsErrOf result SettingsFault.NoMemory → SomeWasRefused }
 {
-    match optional_number_of(at_key(value, "most_count"), 1, MAX_COUNT) {
+    match optional_number_of(at_key(value, Wanted::MostCount), Wanted::MostCount) {
         Some(most) => Ok(most),
         None => Err(SettingsFault::Range(Wanted::MostCount)),
     }

@@ -25,7 +25,6 @@ use crate::fault::SettingsFault;
 use crate::merger::MergerSettings;
 use crate::read_node::pmu_tables;
 use arrayvec::ArrayVec;
-use pdc_frame::MAX_ID;
 use pdc_keys::{Wanted, number, values_at};
 use pdc_life::{MAX_PMUS, MergedNode, Timing};
 use pdc_row::Output;
@@ -72,7 +71,7 @@ fn node_tables(table: &Table) -> Result<&[Value], Wanted>
     ensures none { OnErr result (node_tables_in (table_view table.now) ≡ None) }
     ensures two { IfOk result (λ values. length values.now ≡ 2) }
 {
-    let Some(values) = values_at(table, "node") else {
+    let Some(values) = values_at(table, Wanted::Nodes) else {
         return Err(Wanted::Nodes);
     };
     if values.len() != 2 {
@@ -114,7 +113,7 @@ pub(crate) fn read_source(value: &Value) -> Result<u16, Wanted>
     let Some(table) = value.as_table() else {
         return Err(Wanted::Pmus);
     };
-    let source = number(table, "source", 1, u64::from(MAX_ID), Wanted::PmuSource)?;
+    let source = number(table, Wanted::PmuSource)?;
     Ok(source as u16)
 }
 

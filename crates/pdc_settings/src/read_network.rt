@@ -13,6 +13,7 @@ ghost use Rattle.pdc_settings.specs.Network.{few_outputs, fault_of, metrics_port
 ghost use Rattle.pdc_settings.specs.Network.{receive_buffer_in, sessions_in, ttl_in};
 ghost use Rattle.pdc_keys.specs.pdc_memory.Asking.{SomeWasRefused};
 ghost use Rattle.pdc_keys.specs.Places.{IsUnread, as_place};
+ghost use Rattle.pdc_settings.specs.declared.network.TheConstants.{MAX_OUTPUTS};
 ghost use Rattle.pdc_settings.specs.Said.{SaysNetwork};
 ghost use Rattle.pdc_settings.specs.Settings.{IsFaultOf};
 ghost use Rattle.pdc_settings.specs.Wanting.{IsWant};
@@ -20,13 +21,9 @@ ghost use Rattle.pdc_settings.specs.Wanting.{IsWant};
 use crate::document::Document;
 use crate::fault::SettingsFault;
 use crate::input::Input;
-use crate::network::{
-    MAX_OUTPUTS, MAX_RECEIVE_BUFFER, MAX_SESSIONS, MAX_TTL, Network, RECEIVE_BUFFER, SESSIONS, TTL,
-};
+use crate::network::Network;
 use crate::read_inputs::{fault_of, read_inputs, streams_of};
-use pdc_keys::{
-    MAX_PORT, Unread, Wanted, ip_of, make_room, number_or, optional_number, place_of, value_at,
-};
+use pdc_keys::{Unread, Wanted, ip_of, make_room, number_or, optional_number, place_of, value_at};
 use std::alloc::Global;
 use std::net::IpAddr;
 use toml::{Table, Value};
@@ -38,7 +35,7 @@ fn address(table: &Table) -> Result<IpAddr, Wanted>
         IsAddress (get_member (codes "address") (table_view table.now)) ip → ⊥) }
     ensures wanted { IfErr result (λ w. w ≡ Wanted.Address) }
 {
-    match value_at(table, "address") {
+    match value_at(table, Wanted::Address) {
         Some(value) => ip_of(value).ok_or(Wanted::Address),
         None => Ok(IpAddr::from([127u8, 0, 0, 1])),
     }
@@ -69,7 +66,7 @@ fn texts_of(alloc: Global, values: &[Value]) -> Result<Vec<String>, Unread>
 fn are_few(values: &[Value]) -> bool
     ensures { result ≡ nat_le (length values.now) MAX_OUTPUTS }
 {
-    values.len() <= MAX_OUTPUTS
+    values.len() as u64 <= Wanted::Outputs.most()
 }
 
 /// The values of a list.
@@ -109,7 +106,7 @@ fn outputs(alloc: Global, table: &Table) -> Result<Vec<String>, Unread>
         (get_member (codes "outputs") (table_view table.now)) ≡ None)) }
     ensures refused { IsErrOf result Unread.NoMemory → SomeWasRefused }
 {
-    match value_at(table, "outputs") {
+    match value_at(table, Wanted::Outputs) {
         Some(value) => few_texts(alloc, value),
         None => Ok(Vec::new(alloc)),
     }
@@ -131,18 +128,16 @@ fn read_keys(alloc: Global, table: &Table, inputs: Vec<Input>) -> Result<Network
 {
     let address = address(table).map_err(SettingsFault::Range)?;
     let outputs = outputs(alloc, table).map_err(outputs_fault)?;
-    let Some(ttl) = number_or(table, "ttl", u64::from(TTL), 1, u64::from(MAX_TTL)) else {
+    let Some(ttl) = number_or(table, Wanted::Ttl) else {
         return Err(SettingsFault::Range(Wanted::Ttl));
     };
-    let (usual, most) = (u64::from(RECEIVE_BUFFER), u64::from(MAX_RECEIVE_BUFFER));
-    let Some(receive_buffer) = number_or(table, "receive_buffer", usual, 1, most) else {
+    let Some(receive_buffer) = number_or(table, Wanted::ReceiveBuffer) else {
         return Err(SettingsFault::Range(Wanted::ReceiveBuffer));
     };
-    let (usual, most) = (u64::from(SESSIONS), u64::from(MAX_SESSIONS));
-    let Some(sessions) = number_or(table, "sessions", usual, 1, most) else {
+    let Some(sessions) = number_or(table, Wanted::Sessions) else {
         return Err(SettingsFault::Range(Wanted::Sessions));
     };
-    let Some(metrics_port) = optional_number(table, "metrics_port", 1, MAX_PORT) else {
+    let Some(metrics_port) = optional_number(table, Wanted::MetricsPort) else {
         return Err(SettingsFault::Range(Wanted::MetricsPort));
     };
     Ok(Network {

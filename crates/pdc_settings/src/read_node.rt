@@ -32,7 +32,8 @@ use toml::{Table, Value};
 fn are_some(values: &[Value]) -> bool
     ensures { result ≡ (nat_le 1 (length values.now) && nat_le (length values.now) MAX_PMUS) }
 {
-    1 <= values.len() && values.len() <= MAX_PMUS
+    let count = values.len() as u64;
+    Wanted::Pmus.least() <= count && count <= Wanted::Pmus.most()
 }
 
 /// The tables at the key `pmu`, 1 to 16 of them.
@@ -43,7 +44,7 @@ pub(crate) fn pmu_tables(table: &Table) -> Result<&[Value], Wanted>
     ensures some { IfOk result (λ values. 1 ≤ length values.now) }
     ensures few { IfOk result (λ values. length values.now ≤ MAX_PMUS) }
 {
-    let Some(values) = values_at(table, "pmu") else {
+    let Some(values) = values_at(table, Wanted::Pmus) else {
         return Err(Wanted::Pmus);
     };
     if !are_some(values) {

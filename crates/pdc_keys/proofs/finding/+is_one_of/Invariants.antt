@@ -2,4 +2,4 @@ use Rattle.std.proofs.Common.{length}
 use Rattle.pdc_keys.proofs.finding.+is_one_of.Given as goal
 
 abbrev pub decreases-is_one_of : goal.decreases-is_one_of
-decreases-is_one_of l = length l.names.now
+decreases-is_one_of l = length l.keys.now

@@ -1,5 +1,6 @@
 use Rattle.std.proofs.Common.{◌≡◌, ◌+◌, ◌++◌, drop, length, map}
 use Rattle.toml.specs.View.{items_view}
+use Rattle.pdc_keys.specs.Table.{names_in}
 use Rattle.pdc_keys.specs.Unknown.{unknown_fields, unknown_from}
 use Rattle.pdc_keys.specs.declared.unknown.TableName.TheVariants.{Pmu}
 use Rattle.pdc_keys.proofs.finding.push_pmus.Given as goal
@@ -8,6 +9,6 @@ use Rattle.pdc_keys.proofs.finding.push_pmus.Given as goal
 abbrev pub invariant-loop-at : goal.invariant-loop-at
 invariant-loop-at l = record {
   end : l.at-end ≡ length l.fn.values;
-  found : map unknown_fields l.found.items ++ unknown_from Pmu (map (λ n. n.now) l.fn.known) (l.at + 1) (items_view (drop l.at l.fn.values))
-      ≡ map unknown_fields l.fn.found.items ++ unknown_from Pmu (map (λ n. n.now) l.fn.known) 1 (items_view l.fn.values);
+  found : map unknown_fields l.found.items ++ unknown_from Pmu (names_in l.fn.known l.fn.keys) (l.at + 1) (items_view (drop l.at l.fn.values))
+      ≡ map unknown_fields l.fn.found.items ++ unknown_from Pmu (names_in l.fn.known l.fn.keys) 1 (items_view l.fn.values);
 }

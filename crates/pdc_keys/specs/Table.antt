@@ -1,0 +1,150 @@
+-- What is said of each key, a line a key.
+use Rattle.std.specs.Prelude.{ℕ, Bool, true, false, List, [], ◌∷◌, codes, if◌then◌else◌}
+use Rattle.pdc_keys.specs.declared.key.Usual.{Usual}
+use Rattle.pdc_keys.specs.declared.key.Usual.TheVariants.{AtMerger, AtNode, Is, Must, Said, Text, Unless}
+use Rattle.pdc_keys.specs.declared.key.Values.{Values}
+use Rattle.pdc_keys.specs.declared.key.Values.TheVariants as Stands
+use Rattle.pdc_keys.specs.declared.owner.KeyTable.{KeyTable}
+use Rattle.pdc_keys.specs.declared.owner.KeyTable.TheVariants as In
+use Rattle.pdc_keys.specs.declared.owner.Owner.{Owner}
+use Rattle.pdc_keys.specs.declared.owner.Owner.TheVariants.{EachPmu, Node, Pmu, Settings, Stream}
+use Rattle.pdc_keys.specs.declared.wanted.Wanted.{Wanted}
+use Rattle.pdc_keys.specs.declared.wanted.Wanted.TheVariants as Of
+
+-- the least number that may stand there, or the fewest items; a number that begins at the rate is 1 at least
+abbrev pub least_in : Values → ℕ
+least_in (Stands.Number least most) = least
+least_in (Stands.FromRate most) = 1
+least_in (Stands.Either one other) = one
+least_in (Stands.Words one other) = 0
+least_in (Stands.WithinFrame least most) = least
+least_in (Stands.Tables least most) = least
+least_in Stands.TwoTables = 2
+least_in Stands.Nothing = 0
+least_in (Stands.Address one) = 0
+least_in (Stands.AddressBeside one) = 0
+least_in (Stands.Places most) = 0
+least_in Stands.PlaceInstead = 0
+least_in Stands.PlaceBeside = 0
+
+-- the greatest number, or the most items
+abbrev pub most_in : Values → ℕ
+most_in (Stands.Number least most) = most
+most_in (Stands.FromRate most) = most
+most_in (Stands.Either one other) = other
+most_in (Stands.Words one other) = 0
+most_in (Stands.WithinFrame least most) = most
+most_in (Stands.Tables least most) = most
+most_in Stands.TwoTables = 2
+most_in Stands.Nothing = 0
+most_in (Stands.Address one) = 0
+most_in (Stands.AddressBeside one) = 0
+most_in (Stands.Places most) = most
+most_in Stands.PlaceInstead = 0
+most_in Stands.PlaceBeside = 0
+
+-- the number that holds where a key is left out, 0 where none is said
+abbrev pub usual_in : Usual → ℕ
+usual_in Must = 0
+usual_in (Unless other) = 0
+usual_in (AtNode other) = 0
+usual_in AtMerger = 0
+usual_in (Is number) = number
+usual_in (Text text) = 0
+usual_in (Said words) = 0
+
+-- the name of a key, whose it is, its least and its greatest number, and the usual one
+pub record Line : Type 0 where
+  pub name : List ℕ
+  pub owner : Owner
+  pub least : ℕ
+  pub most : ℕ
+  pub usual : ℕ
+
+abbrev pub number : List ℕ → Owner → (least most : ℕ) → Line
+number name owner least most = record { name = name; owner = owner; least = least; most = most; usual = 0 }
+
+abbrev pub number_or : List ℕ → Owner → (usual least most : ℕ) → Line
+number_or name owner usual least most = record { name = name; owner = owner; least = least; most = most; usual = usual }
+
+abbrev pub other : List ℕ → Owner → Line
+other name owner = number name owner 0 0
+
+abbrev pub line_of : Wanted → Line
+line_of Of.Id = number (codes "id") Settings 1 65534
+line_of Of.Rate = number (codes "rate") Settings 1 240
+line_of Of.Nominal = number (codes "nominal") Settings 50 60
+line_of Of.TimeBase = number (codes "time_base") Settings 1 16777215
+line_of Of.Wait = number (codes "wait") Settings 1 1000
+line_of Of.WaitKind = other (codes "wait_kind") Settings
+line_of Of.Window = number (codes "window") Settings 8 256
+line_of Of.Ahead = number (codes "ahead") Settings 0 1000
+line_of Of.Lead = number_or (codes "lead") Settings 0 0 1000
+line_of Of.LayoutEvery = number (codes "layout_every") Settings 1 65535
+line_of Of.OutPort = number (codes "out_port") Settings 1 65535
+line_of Of.SessionPort = number (codes "session_port") Settings 1 65535
+line_of Of.Tick = other (codes "tick") Settings
+line_of Of.TickMs = number (codes "tick_ms") Settings 0 999
+line_of Of.Address = other (codes "address") Settings
+line_of Of.Outputs = number (codes "outputs") Settings 0 8
+line_of Of.Ttl = number_or (codes "ttl") Settings 1 1 255
+line_of Of.ReceiveBuffer = number_or (codes "receive_buffer") Settings 4194304 1 1073741824
+line_of Of.Sessions = number_or (codes "sessions") Settings 8 1 64
+line_of Of.MetricsPort = number (codes "metrics_port") Settings 1 65535
+line_of Of.NoNodes = other (codes "node") Settings
+line_of Of.Nodes = number (codes "node") Settings 2 2
+line_of Of.Pmus = number (codes "pmu") Settings 1 16
+line_of Of.PmuStream = number (codes "stream") Pmu 1 65534
+line_of Of.PmuSource = number (codes "source") EachPmu 1 65534
+line_of Of.NodeId = number (codes "id") Node 1 65534
+line_of Of.PmuTimeBase = number (codes "time_base") Pmu 1 16777215
+line_of Of.NodeTimeBase = number (codes "time_base") Node 1 16777215
+line_of Of.PmuPort = number (codes "port") Pmu 1 65535
+line_of Of.NodePort = number (codes "port") Node 1 65535
+line_of Of.Tcp = other (codes "tcp") Stream
+line_of Of.Commands = other (codes "commands") Stream
+line_of Of.From = other (codes "from") Stream
+line_of Of.MostCount = number (codes "most_count") Stream 1 65535
+
+abbrev pub name_of : Wanted → List ℕ
+name_of wanted = (line_of wanted).name
+
+abbrev pub owner_of : Wanted → Owner
+owner_of wanted = (line_of wanted).owner
+
+abbrev pub least_of : Wanted → ℕ
+least_of wanted = (line_of wanted).least
+
+abbrev pub most_of : Wanted → ℕ
+most_of wanted = (line_of wanted).most
+
+abbrev pub usual_of : Wanted → ℕ
+usual_of wanted = (line_of wanted).usual
+
+-- a key of this owner is read in a table of this kind
+abbrev pub stands_in : KeyTable → Owner → Bool
+stands_in In.Top Settings = true
+stands_in In.NodePmu Settings = false
+stands_in In.MergedNode Settings = false
+stands_in In.MergedPmu Settings = false
+stands_in In.Top Pmu = false
+stands_in In.NodePmu Pmu = true
+stands_in In.MergedNode Pmu = false
+stands_in In.MergedPmu Pmu = false
+stands_in In.Top EachPmu = false
+stands_in In.NodePmu EachPmu = true
+stands_in In.MergedNode EachPmu = false
+stands_in In.MergedPmu EachPmu = true
+stands_in In.Top Node = false
+stands_in In.NodePmu Node = false
+stands_in In.MergedNode Node = true
+stands_in In.MergedPmu Node = false
+stands_in In.Top Stream = false
+stands_in In.NodePmu Stream = true
+stands_in In.MergedNode Stream = true
+stands_in In.MergedPmu Stream = false
+
+-- the names of those of some keys that are read in a table of this kind
+abbrev pub names_in : KeyTable → List Wanted → List (List ℕ)
+names_in table [] = []
+names_in table (key ∷ keys) = if stands_in table (owner_of key) then name_of key ∷ names_in table keys else names_in table keys
