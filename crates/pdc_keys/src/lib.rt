@@ -24,7 +24,7 @@ pub use keys::{
     number, number_from, number_of, number_or, optional_number, optional_number_of,
     optional_number_to, value_at, values_at,
 };
-pub use limits::{MAX_COUNT, MAX_PORT, MAX_TIME_BASE, MILLISECONDS};
+pub use limits::{MAX_COUNT, MAX_PORT, MAX_TIME_BASE};
 pub use owner::Owner;
 pub use pdc_memory::make_room;
 pub use places::{ip_of, place_of};

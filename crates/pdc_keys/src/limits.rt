@@ -8,6 +8,3 @@ pub const MAX_PORT: u16 = 65535;
 
 /// The greatest count of a configuration.
 pub const MAX_COUNT: u16 = 65535;
-
-/// The milliseconds in a second.
-pub const MILLISECONDS: u16 = 1000;

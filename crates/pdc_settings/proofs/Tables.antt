@@ -13,7 +13,7 @@ use Rattle.pdc_life.specs.pdc_row.declared.limits.TheConstants.{MAX_PMUS}
 use Rattle.pdc_settings.specs.Entries.{both, count_of, each_of, some_pmus, two_of}
 use Rattle.pdc_keys.specs.Places.{IsUnread, as_place}
 use Rattle.pdc_settings.specs.Network.{IsKeyFault, fault_of, few_outputs, outputs_in}
-use Rattle.pdc_settings.specs.declared.network.TheConstants.{MAX_OUTPUTS}
+use Rattle.pdc_settings.specs.Limits.{MAX_OUTPUTS}
 use Rattle.pdc_keys.specs.declared.unread.Unread.{Unread}
 
 both-true : (a b d : Bool) → IsTrue (a && b) → (IsTrue b → IsTrue d) → IsTrue (a && d)

@@ -4,6 +4,7 @@ pub mod Doubled
 pub mod Entries
 pub mod Inputs
 pub mod Kind
+pub mod Limits
 pub mod Mistake
 pub mod Network
 pub mod Said

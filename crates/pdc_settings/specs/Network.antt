@@ -11,7 +11,7 @@ use Rattle.pdc_settings.specs.declared.fault.SettingsFault.{SettingsFault}
 use Rattle.pdc_settings.specs.declared.fault.SettingsFault.TheVariants.{Range, NoMemory}
 use Rattle.pdc_keys.specs.declared.limits.TheConstants.{MAX_PORT}
 use Rattle.pdc_settings.specs.declared.network.Network.{Network}
-use Rattle.pdc_settings.specs.declared.network.TheConstants.{MAX_OUTPUTS, MAX_RECEIVE_BUFFER, MAX_SESSIONS, MAX_TTL, RECEIVE_BUFFER, SESSIONS, TTL}
+use Rattle.pdc_settings.specs.Limits.{MAX_OUTPUTS, MAX_RECEIVE_BUFFER, MAX_SESSIONS, MAX_TTL, RECEIVE_BUFFER, SESSIONS, TTL}
 use Rattle.pdc_keys.specs.declared.unread.Unread.{Unread}
 use Rattle.pdc_keys.specs.declared.wanted.Wanted.{Wanted}
 use Rattle.pdc_keys.specs.declared.wanted.Wanted.TheVariants as Lacks

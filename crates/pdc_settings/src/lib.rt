@@ -32,7 +32,7 @@ pub use fault::SettingsFault;
 pub use input::Input;
 pub use merger::MergerSettings;
 pub use mistake::{Mistake, doubled_port_in, mistake_in};
-pub use network::{MAX_OUTPUTS, Network};
+pub use network::Network;
 pub use node::NodeSettings;
 pub use pdc_keys::{Key, MAX_PORT, MAX_TIME_BASE, TableName, UnknownKey, Wanted, all_keys};
 pub use service::{Service, TickWhen};

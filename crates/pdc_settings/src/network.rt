@@ -1,27 +1,9 @@
 //! Where a concentrator is on the network.
 ghost use Rattle.std.specs.Prelude.{◌≤◌};
-ghost use Rattle.pdc_settings.specs.declared.network.TheConstants.{MAX_SESSIONS};
+ghost use Rattle.pdc_settings.specs.Limits.{MAX_SESSIONS};
 
 use crate::input::Input;
 use std::net::IpAddr;
-
-/// The most destinations of a frame beside the loopback.
-pub const MAX_OUTPUTS: usize = 8;
-
-/// The greatest number of hops of a frame to a group of receivers, and how many it takes where the key is left out.
-pub const MAX_TTL: u8 = 255;
-
-pub const TTL: u8 = 1;
-
-/// The largest buffer of a port that can be asked for, in bytes, and what is asked for where the key is left out.
-pub const MAX_RECEIVE_BUFFER: u32 = 1_073_741_824;
-
-pub const RECEIVE_BUFFER: u32 = 4_194_304;
-
-/// The most consumers that are served at once, and how many where the key is left out.
-pub const MAX_SESSIONS: u8 = 64;
-
-pub const SESSIONS: u8 = 8;
 
 /// Where a concentrator is on the network. Each key may be left out of its settings.
 #[derive(Debug, Drop)]

@@ -13,7 +13,7 @@ ghost use Rattle.pdc_settings.specs.Network.{few_outputs, fault_of, metrics_port
 ghost use Rattle.pdc_settings.specs.Network.{receive_buffer_in, sessions_in, ttl_in};
 ghost use Rattle.pdc_keys.specs.pdc_memory.Asking.{SomeWasRefused};
 ghost use Rattle.pdc_keys.specs.Places.{IsUnread, as_place};
-ghost use Rattle.pdc_settings.specs.declared.network.TheConstants.{MAX_OUTPUTS};
+ghost use Rattle.pdc_settings.specs.Limits.{MAX_OUTPUTS};
 ghost use Rattle.pdc_settings.specs.Said.{SaysNetwork};
 ghost use Rattle.pdc_settings.specs.Settings.{IsFaultOf};
 ghost use Rattle.pdc_settings.specs.Wanting.{IsWant};
