@@ -1,5 +1,8 @@
 -- What is said of each key, a line a key.
-use Rattle.std.specs.Prelude.{ℕ, Bool, true, false, List, [], ◌∷◌, codes, if◌then◌else◌}
+use Rattle.std.specs.Prelude.{ℕ, Bool, true, false, List, [], ◌∷◌, codes, if◌then◌else◌, nat_eq, Option, Some, None}
+use Rattle.std.specs.Cmp.Lexicographic.{pointwise}
+use Rattle.pdc_keys.specs.declared.key.Choice.{Choice}
+use Rattle.pdc_keys.specs.declared.key.Choice.TheVariants.{First, Second}
 use Rattle.pdc_keys.specs.declared.key.Usual.{Usual}
 use Rattle.pdc_keys.specs.declared.key.Usual.TheVariants.{AtMerger, AtNode, Is, Must, Said, Text, Unless}
 use Rattle.pdc_keys.specs.declared.key.Values.{Values}
@@ -53,22 +56,48 @@ usual_in (Is number) = number
 usual_in (Text text) = 0
 usual_in (Said words) = 0
 
--- the name of a key, whose it is, its least and its greatest number, and the usual one
+-- the two words of which one may stand there
+abbrev pub words_in : Values → List (List ℕ)
+words_in (Stands.Number least most) = []
+words_in (Stands.FromRate most) = []
+words_in (Stands.Either one other) = []
+words_in (Stands.Words one other) = one.now ∷ other.now ∷ []
+words_in (Stands.WithinFrame least most) = []
+words_in (Stands.Tables least most) = []
+words_in Stands.TwoTables = []
+words_in Stands.Nothing = []
+words_in (Stands.Address one) = []
+words_in (Stands.AddressBeside one) = []
+words_in (Stands.Places most) = []
+words_in Stands.PlaceInstead = []
+words_in Stands.PlaceBeside = []
+
+-- which of them a text is
+abbrev pub choice_of : List (List ℕ) → List ℕ → Option Choice
+choice_of [] text = None
+choice_of (one ∷ []) text = None
+choice_of (one ∷ (other ∷ more)) text = if pointwise nat_eq text one then Some First else if pointwise nat_eq text other then Some Second else None
+
+-- the name of a key, whose it is, its least and its greatest number, the usual one, and its two words
 pub record Line : Type 0 where
   pub name : List ℕ
   pub owner : Owner
   pub least : ℕ
   pub most : ℕ
   pub usual : ℕ
+  pub words : List (List ℕ)
 
 abbrev pub number : List ℕ → Owner → (least most : ℕ) → Line
-number name owner least most = record { name = name; owner = owner; least = least; most = most; usual = 0 }
+number name owner least most = record { name = name; owner = owner; least = least; most = most; usual = 0; words = [] }
 
 abbrev pub number_or : List ℕ → Owner → (usual least most : ℕ) → Line
-number_or name owner usual least most = record { name = name; owner = owner; least = least; most = most; usual = usual }
+number_or name owner usual least most = record { name = name; owner = owner; least = least; most = most; usual = usual; words = [] }
 
 abbrev pub other : List ℕ → Owner → Line
 other name owner = number name owner 0 0
+
+abbrev pub either : List ℕ → Owner → (one other : List ℕ) → Line
+either name owner one other = record { name = name; owner = owner; least = 0; most = 0; usual = 0; words = one ∷ other ∷ [] }
 
 abbrev pub line_of : Wanted → Line
 line_of Of.Id = number (codes "id") Settings 1 65534
@@ -76,14 +105,14 @@ line_of Of.Rate = number (codes "rate") Settings 1 240
 line_of Of.Nominal = number (codes "nominal") Settings 50 60
 line_of Of.TimeBase = number (codes "time_base") Settings 1 16777215
 line_of Of.Wait = number (codes "wait") Settings 1 1000
-line_of Of.WaitKind = other (codes "wait_kind") Settings
+line_of Of.WaitKind = either (codes "wait_kind") Settings (codes "relative") (codes "absolute")
 line_of Of.Window = number (codes "window") Settings 8 256
 line_of Of.Ahead = number (codes "ahead") Settings 0 1000
 line_of Of.Lead = number_or (codes "lead") Settings 0 0 1000
 line_of Of.LayoutEvery = number (codes "layout_every") Settings 1 65535
 line_of Of.OutPort = number (codes "out_port") Settings 1 65535
 line_of Of.SessionPort = number (codes "session_port") Settings 1 65535
-line_of Of.Tick = other (codes "tick") Settings
+line_of Of.Tick = either (codes "tick") Settings (codes "period") (codes "whole")
 line_of Of.TickMs = number (codes "tick_ms") Settings 0 999
 line_of Of.Address = other (codes "address") Settings
 line_of Of.Outputs = number (codes "outputs") Settings 0 8
@@ -120,6 +149,9 @@ most_of wanted = (line_of wanted).most
 
 abbrev pub usual_of : Wanted → ℕ
 usual_of wanted = (line_of wanted).usual
+
+abbrev pub words_of : Wanted → List (List ℕ)
+words_of wanted = (line_of wanted).words
 
 -- a key of this owner is read in a table of this kind
 abbrev pub stands_in : KeyTable → Owner → Bool

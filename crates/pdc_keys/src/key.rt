@@ -1,6 +1,6 @@
 //! What the table says of a key.
 ghost use Rattle.std.specs.Prelude.{◌≡◌};
-ghost use Rattle.pdc_keys.specs.Table.{least_in, most_in, usual_in};
+ghost use Rattle.pdc_keys.specs.Table.{choice_of, least_in, most_in, usual_in, words_in};
 
 use crate::owner::Owner;
 use std::fmt;
@@ -35,6 +35,13 @@ pub enum Values {
     PlaceInstead,
     /// A place beside `port`.
     PlaceBeside,
+}
+
+/// One of the two words that may stand at a key.
+#[derive(Clone, Copy, Debug)]
+pub enum Choice {
+    First,
+    Second,
 }
 
 /// What holds where a key is left out.
@@ -128,6 +135,37 @@ impl Values {
             | Values::AddressBeside(_)
             | Values::PlaceInstead
             | Values::PlaceBeside => 0,
+        }
+    }
+}
+
+impl Values {
+    /// Which of two words a text is; none where no words may stand there.
+    pub(crate) fn choice(self, text: &str) -> Option<Choice>
+        ensures { result ≡ choice_of (words_in self) text.now }
+    {
+        match self {
+            Values::Words(one, other) => {
+                if text == one {
+                    Some(Choice::First)
+                } else if text == other {
+                    Some(Choice::Second)
+                } else {
+                    None
+                }
+            }
+            Values::Number(..)
+            | Values::FromRate(_)
+            | Values::Either(..)
+            | Values::WithinFrame(..)
+            | Values::Tables(..)
+            | Values::TwoTables
+            | Values::Nothing
+            | Values::Address(_)
+            | Values::AddressBeside(_)
+            | Values::Places(_)
+            | Values::PlaceInstead
+            | Values::PlaceBeside => None,
         }
     }
 }

@@ -19,7 +19,7 @@ mod unread;
 mod wanted;
 
 pub use finding::unknown_keys_in;
-pub use key::{Key, Range, Usual, Values};
+pub use key::{Choice, Key, Range, Usual, Values};
 pub use keys::{
     number, number_from, number_of, number_or, optional_number, optional_number_of,
     optional_number_to, value_at, values_at,

@@ -2,7 +2,7 @@
 ghost use Rattle.std.specs.Prelude.{◌≡◌};
 ghost use Rattle.pdc_keys.specs.Known.{merged_node_keys, merged_pmu_keys, pmu_keys, top_keys};
 ghost use Rattle.pdc_keys.specs.Table.{least_in, least_of, most_in, most_of, name_of, owner_of};
-ghost use Rattle.pdc_keys.specs.Table.{names_in, usual_in, usual_of};
+ghost use Rattle.pdc_keys.specs.Table.{names_in, usual_in, usual_of, words_in, words_of};
 ghost use Rattle.pdc_keys.specs.declared.owner.KeyTable.TheVariants.{MergedNode, MergedPmu};
 ghost use Rattle.pdc_keys.specs.declared.owner.KeyTable.TheVariants.{NodePmu, Top};
 
@@ -82,6 +82,7 @@ pub(crate) fn line_of(wanted: Wanted) -> Key
     ensures least { least_in result.values ≡ least_of wanted }
     ensures most { most_in result.values ≡ most_of wanted }
     ensures usual { usual_in result.usual ≡ usual_of wanted }
+    ensures words { words_in result.values ≡ words_of wanted }
 {
     keys!(line_of wanted)
 }

@@ -1,9 +1,9 @@
 //! What a settings text lacks.
 ghost use Rattle.std.specs.Prelude.{◌≡◌};
 ghost use Rattle.pdc_keys.specs.Table.{least_in, least_of, most_in, most_of, name_of, owner_of};
-ghost use Rattle.pdc_keys.specs.Table.{usual_in, usual_of};
+ghost use Rattle.pdc_keys.specs.Table.{choice_of, usual_in, usual_of, words_in, words_of};
 
-use crate::key::{Key, Range};
+use crate::key::{Choice, Key, Range};
 use crate::owner::Owner;
 use crate::table::line_of;
 use std::error::Error;
@@ -57,6 +57,7 @@ impl Wanted {
         ensures least { least_in result.values ≡ least_of self }
         ensures most { most_in result.values ≡ most_of self }
         ensures usual { usual_in result.usual ≡ usual_of self }
+        ensures words { words_in result.values ≡ words_of self }
     {
         line_of(self)
     }
@@ -94,6 +95,13 @@ impl Wanted {
         ensures { result ≡ usual_of self }
     {
         self.line().usual.number()
+    }
+
+    /// Which of its two words a text is; none where it has no words.
+    pub fn choice(self, text: &str) -> Option<Choice>
+        ensures { result ≡ choice_of (words_of self) text.now }
+    {
+        self.line().values.choice(text)
     }
 
     /// What must stand at it, as a refusal says it.

@@ -9,7 +9,7 @@ ghost use Rattle.pdc_settings.specs.Settings.{IsCommon};
 
 use crate::service::{Service, TickWhen};
 use pdc_frame::StreamId;
-use pdc_keys::{Wanted, number, number_from, number_or, optional_number_to, value_at};
+use pdc_keys::{Choice, Wanted, number, number_from, number_or, optional_number_to, value_at};
 use pdc_life::{Timing, WaitKind};
 use pdc_row::{Nominal, Output};
 use toml::Table;
@@ -38,12 +38,10 @@ fn nominal(table: &Table) -> Result<Nominal, Wanted>
 fn wait_kind_named(name: &str) -> Option<WaitKind>
     ensures { result ≡ wait_kind_named name.now }
 {
-    if name == "relative" {
-        Some(WaitKind::Relative)
-    } else if name == "absolute" {
-        Some(WaitKind::Absolute)
-    } else {
-        None
+    match Wanted::WaitKind.choice(name) {
+        Some(Choice::First) => Some(WaitKind::Relative),
+        Some(Choice::Second) => Some(WaitKind::Absolute),
+        None => None,
     }
 }
 
@@ -101,12 +99,10 @@ fn timing(table: &Table) -> Result<Timing, Wanted>
 fn tick_named(name: &str) -> Option<TickWhen>
     ensures { result ≡ tick_named name.now }
 {
-    if name == "period" {
-        Some(TickWhen::Period)
-    } else if name == "whole" {
-        Some(TickWhen::Whole)
-    } else {
-        None
+    match Wanted::Tick.choice(name) {
+        Some(Choice::First) => Some(TickWhen::Period),
+        Some(Choice::Second) => Some(TickWhen::Whole),
+        None => None,
     }
 }
 
