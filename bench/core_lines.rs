@@ -240,7 +240,7 @@ fn compare_refusals() {
 
 pub fn nodes(mode: &mut Mode) {
     compare_refusals();
-    let shapes = [shape(1, 0, 0), shape(8, 4, 1)];
+    let shapes = [shape(1, 0, 0), shape(8, 4, 1), shape(32, 32, 8)];
     concentrator(
         mode,
         "a node of 16 PMUs",

@@ -28,7 +28,7 @@ pub struct Settings {
 }
 
 /// A node; each PMU has a stream and a column of its own.
-struct Node<C> {
+pub struct Node<C> {
     rate: u32,
     pmus: Vec<Pmu>,
     grids: Vec<Grid>,
@@ -39,7 +39,7 @@ struct Node<C> {
 }
 
 impl<C: CheckWord> Node<C> {
-    fn open(settings: &Settings, start: u32, floor: u64) -> Node<C> {
+    pub fn open(settings: &Settings, start: u32, floor: u64) -> Node<C> {
         Node {
             rate: settings.output.rate,
             pmus: settings.pmus.clone(),
@@ -61,14 +61,20 @@ impl<C: CheckWord> Node<C> {
         }
     }
 
-    fn answer(&mut self, stream: usize, bytes: &[u8]) -> Result<Answer, Refusal> {
-        let frame = plain::read_frame::<C>(bytes)?;
+    /// Takes what was read of a datagram, which may have been read before the node was locked.
+    #[inline]
+    pub fn put_read(&mut self, stream: usize, read: Result<Frame, Refusal>) {
+        let answer = read.and_then(|frame| self.answer(stream, &frame));
+        self.counts.count(answer);
+    }
+
+    fn answer(&mut self, stream: usize, frame: &Frame) -> Result<Answer, Refusal> {
         if frame.id != self.pmus[stream].stream {
             return Err(Refusal::WrongId);
         }
         match frame.kind {
-            Kind::Data => self.take(stream, &frame),
-            Kind::Cfg2 => self.hold(stream, &plain::read_config(&frame)?),
+            Kind::Data => self.take(stream, frame),
+            Kind::Cfg2 => self.hold(stream, &plain::read_config(frame)?),
             _ => Err(Refusal::WrongKind),
         }
     }
@@ -119,8 +125,7 @@ impl<C: CheckWord> Node<C> {
 impl<C: CheckWord> Core for Node<C> {
     #[inline]
     fn put_datagram(&mut self, stream: usize, bytes: &[u8]) {
-        let answer = self.answer(stream, bytes);
-        self.counts.count(answer);
+        self.put_read(stream, plain::read_frame::<C>(bytes));
     }
 
     fn tick(&mut self, now: u64, cleared: &[u16; COLUMNS]) -> Ticked {

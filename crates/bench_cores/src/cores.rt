@@ -2,7 +2,7 @@
 ghost use Rattle.std.specs.Prelude.{◌≡◌, ◌<◌, IfOk};
 ghost use Rattle.pdc_publisher.specs.Publisher.{output_in};
 
-use pdc_core::Core;
+use pdc_core::{Core, Reads};
 use pdc_frame::SECONDS;
 use pdc_life::MAX_PMUS;
 use pdc_mark::ModelMark;
@@ -29,6 +29,7 @@ const TICK: u8 = 255;
 /// A core with its publisher, over a mark in memory.
 #[derive(Drop)]
 struct Concentrator<C: Core + Drop> {
+    alloc: Global,
     core: C,
     streams: usize,
     output: Output,
@@ -47,11 +48,18 @@ struct Concentrator<C: Core + Drop> {
 
 impl<C: Core + Drop> Concentrator<C> {
     /// Up to this instant all is published, and the first tick is at it.
-    fn new(core: C, streams: usize, output: Output, floor: u64) -> Concentrator<C>
+    fn new(
+        alloc: Global,
+        core: C,
+        streams: usize,
+        output: Output,
+        floor: u64,
+    ) -> Concentrator<C>
         requires same_streams { streams ≡ C.Settings.streams (C.settings_of core) }
         requires some_streams { 0 < streams }
     {
         Concentrator {
+            alloc,
             core,
             streams,
             output,
@@ -63,9 +71,13 @@ impl<C: Core + Drop> Concentrator<C> {
         }
     }
 
+    /// Takes a datagram as the running program does: what it says is read and kept, and that arrives.
     fn take(&mut self, stream: usize, bytes: &[u8]) {
-        if stream < self.streams {
-            let _ = self.core.put_datagram(stream, bytes);
+        if stream >= self.streams {
+            return;
+        }
+        if let Ok(taken) = self.core.settings().read_kept(self.alloc, stream, bytes) {
+            let _ = self.core.arrive_kept(stream, &taken);
         }
     }
 
@@ -167,7 +179,7 @@ fn open_node(alloc: Global, text: &str, floor: u64) -> Option<Concentrator<Node<
     let life = NodeSettings::from_toml(alloc, text).ok()?.life;
     let (streams, output) = (life.pmus.len(), life.output);
     let node = Node::open(alloc, life, 1, floor, &[0; MAX_PMUS], floor).ok()?;
-    Some(Concentrator::new(node, streams, output, floor))
+    Some(Concentrator::new(alloc, node, streams, output, floor))
 }
 
 /// The merger of these settings, a TOML text; none where they are refused or memory runs out.
@@ -175,7 +187,7 @@ fn open_merger(alloc: Global, text: &str, floor: u64) -> Option<Concentrator<Mer
     let life = MergerSettings::from_toml(alloc, text).ok()?.life;
     let output = life.output;
     let merger = Merger::open(alloc, life, 1, floor, &[0; MAX_PMUS], floor).ok()?;
-    Some(Concentrator::new(merger, NODES, output, floor))
+    Some(Concentrator::new(alloc, merger, NODES, output, floor))
 }
 
 /// Runs a node of these settings, a TOML text, over the steps: [`Concentrator::run`]; 0 where the settings are refused or memory runs
