@@ -1,5 +1,5 @@
 -- What can arrive at all, whatever the bytes were: a test of the stream and of the columns.
-use Rattle.std.specs.Prelude.{ℕ, ◌+◌, ◌==◌, ◌&&◌, Bool, true, false, List, [], ◌∷◌, length, nat_lt, if◌then◌else◌}
+use Rattle.std.specs.Prelude.{ℕ, ◌+◌, ◌==◌, ◌&&◌, Bool, true, List, [], ◌∷◌, length, nat_lt}
 use Rattle.std.specs.List.{list_all}
 use Rattle.pdc_align.specs.pdc_cfg.Section.{SectionFields}
 use Rattle.pdc_align.specs.pdc_life.Arrival.{Arrival}

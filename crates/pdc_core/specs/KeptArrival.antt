@@ -1,5 +1,5 @@
 -- What contracts see of an arrival that was kept.
-use Rattle.std.specs.Prelude.{ℕ, Bool, true, false, List, length, map, nat_le, option_map}
+use Rattle.std.specs.Prelude.{◌≡◌, ℕ, Bool, true, false, List, length, map, nat_le, option_map}
 use Rattle.pdc_align.specs.pdc_cfg.Section.{SectionFields, fields_of_section}
 use Rattle.pdc_core.specs.declared.payload.Payload.{Payload}
 use Rattle.pdc_core.specs.declared.payload.Payload.TheVariants as payload
@@ -37,3 +37,7 @@ wanted_of (Layout stamp sections) = length sections
 -- In this call a request was refused of as many as a copy of an arrival asks for of which this is so.
 abbrev pub CopyWasRefused : (Arrival → Type 0) → Type 0
 CopyWasRefused IsSaid = (arrival : Arrival) × IsSaid arrival × WasRefused (wanted_of arrival)
+
+-- Something is made where an arrival of which this is so takes no memory to be kept.
+abbrev pub IsMadeInPlace : (Arrival → Type 0) → (Made : Type 0) → Type 0
+IsMadeInPlace IsSaid Made = (arrival : Arrival) × IsSaid arrival × (takes_no_memory arrival ≡ true → Made)

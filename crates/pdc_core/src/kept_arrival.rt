@@ -3,7 +3,7 @@ ghost use Rattle.std.specs.Prelude.{◌≡◌, ◌≤◌, [], ◌∷◌, IfOk, I
 ghost use Rattle.pdc_core.specs.KeptArrival.{kept_part, taken_view, takes_no_memory, wanted_of};
 ghost use Rattle.pdc_memory.specs.Asking.{WasRefused};
 ghost use Rattle.pdc_align.specs.pdc_arrival.Views.{arrival_view, section_part};
-ghost use Rattle.pdc_align.specs.pdc_life.Arrival.{Layout};
+ghost use Rattle.pdc_align.specs.pdc_life.Arrival.{Data, Layout};
 ghost use Rattle.pdc_align.specs.pdc_cfg.Section.{fields_of_view};
 ghost use Rattle.pdc_align.specs.pdc_life.Views.{arrival_view as reading_view};
 
@@ -82,6 +82,24 @@ fn keep_configuration(
     }))
 }
 
+/// Data whose bytes lie on the heap where they are many.
+#[inline(never)]
+fn keep_long(
+    alloc: Global,
+    instant: u64,
+    quality: u8,
+    payload: &[u8],
+) -> Result<KeptArrival, AllocError>
+    ensures refused { OnErr result (WasRefused (length payload.now)) }
+    ensures same { IfOk result (λ taken. taken_view taken ≡ Data instant quality payload.now) }
+{
+    Ok(KeptArrival::Data {
+        instant,
+        quality,
+        payload: Payload::of(alloc, payload)?,
+    })
+}
+
 /// The sections as they were read.
 fn lent(sections: &[KeptSection]) -> ArrayVec<ColumnSection<'_>, MAX_PMUS>
     requires { length sections.now ≤ MAX_PMUS }
@@ -114,11 +132,7 @@ impl KeptArrival {
                 instant,
                 quality,
                 payload,
-            } => Ok(KeptArrival::Data {
-                instant: *instant,
-                quality: *quality,
-                payload: Payload::of(alloc, payload)?,
-            }),
+            } => KeptArrival::keep_data(alloc, *instant, *quality, payload),
             Arrival::Layout { stamp, sections } => Ok(KeptArrival::Layout(KeptLayout {
                 stamp: *stamp,
                 sections: kept(alloc, sections.as_slice())?,
@@ -126,11 +140,40 @@ impl KeptArrival {
         }
     }
 
+    /// Data of this instant, with this time quality byte and a copy of this payload.
+    ///
+    /// # Errors
+    ///
+    /// [`AllocError`] where the payload has more than 214 bytes, and there is no memory.
+    #[inline(always)]
+    pub fn keep_data(
+        alloc: Global,
+        instant: u64,
+        quality: u8,
+        payload: &[u8],
+    ) -> Result<KeptArrival, AllocError>
+        ensures same { IfOk result (λ taken. taken_view taken ≡ Data instant quality payload.now) }
+        ensures refused { OnErr result (WasRefused (length payload.now)) }
+        ensures in_place { takes_no_memory (Data instant quality payload.now) ≡ true →
+            IsOk result }
+    {
+        let mut short = ArrayVec::new();
+        if short.try_extend_from_slice(payload).is_ok() {
+            return Ok(KeptArrival::Data {
+                instant,
+                quality,
+                payload: Payload::Short(short),
+            });
+        }
+        keep_long(alloc, instant, quality, payload)
+    }
+
     /// A copy of what is read of a PMU, whose configuration is of this column.
     ///
     /// # Errors
     ///
     /// [`AllocError`] where there is no memory. Refused bytes and data of at most 214 bytes take none.
+    #[inline(always)]
     pub fn keep_reading(
         alloc: Global,
         column: usize,
@@ -146,11 +189,7 @@ impl KeptArrival {
                 instant,
                 quality,
                 payload,
-            } => Ok(KeptArrival::Data {
-                instant: *instant,
-                quality: *quality,
-                payload: Payload::of(alloc, payload)?,
-            }),
+            } => KeptArrival::keep_data(alloc, *instant, *quality, payload),
             Reading::Configuration(section) => keep_configuration(alloc, column, section),
         }
     }

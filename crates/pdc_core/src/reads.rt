@@ -1,14 +1,14 @@
 //! Settings by which bytes are read.
-ghost use Rattle.std.specs.Prelude.{◌≡◌, ◌<◌, ℕ, Bool, IfOk, List, OnErr, length, true};
+ghost use Rattle.std.specs.Prelude.{◌≡◌, ◌<◌, ℕ, Bool, IfOk, IsOk, List, OnErr, length, true};
 ghost use Rattle.pdc_core.specs.Fits.{fits_merger, fits_node};
 ghost use Rattle.pdc_align.specs.pdc_arrival.Heard.{HearsForMerger};
-ghost use Rattle.pdc_core.specs.KeptArrival.{CopyWasRefused, taken_view};
+ghost use Rattle.pdc_core.specs.KeptArrival.{CopyWasRefused, IsMadeInPlace, taken_view};
 ghost use Rattle.pdc_align.specs.pdc_life.Arrival.{Arrival};
 ghost use Rattle.pdc_align.specs.pdc_life.CoreKind.{OfMerger, OfNode, Says};
 ghost use Rattle.pdc_align.specs.pdc_arrival.Views.{arrival_view};
 ghost use Rattle.pdc_align.specs.pdc_arrival.declared.from_node.TheConstants.{NODES};
 
-use crate::{KeptArrival, Payload};
+use crate::KeptArrival;
 use pdc_align::{
     Arrival, Frame, MergerSettings, Reading, Settings, arrival_from_node, hear_from_node,
     hear_from_pmu, read_from_node, read_from_pmu,
@@ -48,7 +48,8 @@ pub trait Reads {
         requires { stream < streams self.now }
         ensures says { IfOk result (λ taken. says self.now stream bytes.now (taken_view taken)) }
         ensures fits { IfOk result (λ taken. fits self.now stream (taken_view taken) ≡ true) }
-        ensures refused { OnErr result (CopyWasRefused (says self.now stream bytes.now)) };
+        ensures refused { OnErr result (CopyWasRefused (says self.now stream bytes.now)) }
+        ensures in_place { IsMadeInPlace (says self.now stream bytes.now) (IsOk result) };
 }
 
 /// A node's: a stream comes from each PMU.
@@ -67,6 +68,7 @@ impl Reads for Settings {
         read_from_pmu(self, stream, bytes)
     }
 
+    #[inline(always)]
     fn read_kept(
         &self,
         alloc: Global,
@@ -95,6 +97,7 @@ impl Reads for MergerSettings {
         read_from_node(self, stream, bytes)
     }
 
+    #[inline(always)]
     fn read_kept(
         &self,
         alloc: Global,
@@ -106,11 +109,7 @@ impl Reads for MergerSettings {
                 instant,
                 quality,
                 payload,
-            } => Ok(KeptArrival::Data {
-                instant,
-                quality,
-                payload: Payload::of(alloc, payload)?,
-            }),
+            } => KeptArrival::keep_data(alloc, instant, quality, payload),
             heard => keep_heard(self, alloc, stream, heard),
         }
     }
@@ -129,6 +128,8 @@ fn keep_heard(
         IfOk result (λ taken. Says (OfMerger settings.now) stream bytes (taken_view taken)) }
     ensures refused { (bytes : List ℕ) → HearsForMerger settings.now stream bytes heard.entry →
         OnErr result (CopyWasRefused (Says (OfMerger settings.now) stream bytes)) }
+    ensures in_place { (bytes : List ℕ) → HearsForMerger settings.now stream bytes heard.entry →
+        IsMadeInPlace (Says (OfMerger settings.now) stream bytes) (IsOk result) }
 {
     let arrival = arrival_from_node(settings, stream, heard);
     KeptArrival::keep(alloc, &arrival)

@@ -17,4 +17,5 @@ returns-in_default c = record {
   says = c.keep_heard.ensures.says c.args.bytes.now c.hear_from_node.ensures.heard;
   fits = fitting c.args.self.now c.args.stream c.args.bytes.now c.keep_heard.result (c.keep_heard.ensures.says c.args.bytes.now c.hear_from_node.ensures.heard);
   refused = c.keep_heard.ensures.refused c.args.bytes.now c.hear_from_node.ensures.heard;
+  in_place = c.keep_heard.ensures.in_place c.args.bytes.now c.hear_from_node.ensures.heard;
 }
