@@ -82,24 +82,6 @@ fn keep_configuration(
     }))
 }
 
-/// Data whose bytes lie on the heap where they are many.
-#[inline(never)]
-fn keep_long(
-    alloc: Global,
-    instant: u64,
-    quality: u8,
-    payload: &[u8],
-) -> Result<KeptArrival, AllocError>
-    ensures refused { OnErr result (WasRefused (length payload.now)) }
-    ensures same { IfOk result (λ taken. taken_view taken ≡ Data instant quality payload.now) }
-{
-    Ok(KeptArrival::Data {
-        instant,
-        quality,
-        payload: Payload::of(alloc, payload)?,
-    })
-}
-
 /// The sections as they were read.
 fn lent(sections: &[KeptSection]) -> ArrayVec<ColumnSection<'_>, MAX_PMUS>
     requires { length sections.now ≤ MAX_PMUS }
@@ -157,15 +139,11 @@ impl KeptArrival {
         ensures in_place { takes_no_memory (Data instant quality payload.now) ≡ true →
             IsOk result }
     {
-        let mut short = ArrayVec::new();
-        if short.try_extend_from_slice(payload).is_ok() {
-            return Ok(KeptArrival::Data {
-                instant,
-                quality,
-                payload: Payload::Short(short),
-            });
-        }
-        keep_long(alloc, instant, quality, payload)
+        Ok(KeptArrival::Data {
+            instant,
+            quality,
+            payload: Payload::of(alloc, payload)?,
+        })
     }
 
     /// A copy of what is read of a PMU, whose configuration is of this column.
@@ -173,7 +151,7 @@ impl KeptArrival {
     /// # Errors
     ///
     /// [`AllocError`] where there is no memory. Refused bytes and data of at most 214 bytes take none.
-    #[inline(always)]
+    #[inline(never)]
     pub fn keep_reading(
         alloc: Global,
         column: usize,

@@ -8,7 +8,8 @@ ghost use Rattle.pdc_align.specs.pdc_life.CoreKind.{OfMerger, OfNode, Says};
 ghost use Rattle.pdc_align.specs.pdc_arrival.Views.{arrival_view};
 ghost use Rattle.pdc_align.specs.pdc_arrival.declared.from_node.TheConstants.{NODES};
 
-use crate::KeptArrival;
+use crate::{KeptArrival, Payload};
+use arrayvec::ArrayVec;
 use pdc_align::{
     Arrival, Frame, MergerSettings, Reading, Settings, arrival_from_node, hear_from_node,
     hear_from_pmu, read_from_node, read_from_pmu,
@@ -76,6 +77,22 @@ impl Reads for Settings {
         bytes: &[u8],
     ) -> Result<KeptArrival, AllocError> {
         let reading = hear_from_pmu(self, stream, bytes);
+        if let Reading::Data {
+            instant,
+            quality,
+            payload,
+        } = &reading
+        {
+            // What lies in place is made where it is handed back: a call between would move it.
+            let mut short = ArrayVec::new();
+            if short.try_extend_from_slice(payload).is_ok() {
+                return Ok(KeptArrival::Data {
+                    instant: *instant,
+                    quality: *quality,
+                    payload: Payload::Short(short),
+                });
+            }
+        }
         KeptArrival::keep_reading(alloc, stream, &reading)
     }
 }

@@ -4,6 +4,7 @@ ghost use Rattle.std.specs.Prelude.{false, length, true};
 ghost use Rattle.std.specs.List.{list_all};
 ghost use Rattle.pdc_core.specs.Step.{after_answer, is_allowed, ticked_of};
 ghost use Rattle.pdc_core.specs.KeptArrival.{taken_view};
+ghost use Rattle.pdc_core.specs.declared.kept_arrival.KeptArrival.{KeptArrival as KeptArrivalData};
 ghost use Rattle.pdc_core.specs.declared.step.CoreStep.TheVariants as step;
 ghost use Rattle.pdc_life.specs.Answer.{ToArrive, ToPop, ToTick, pop_answer, tick_answer};
 ghost use Rattle.pdc_life.specs.Given.{Given};
@@ -144,9 +145,7 @@ impl<C: Core + Drop, N: Naming<C::Settings>> Replayed<C, N> {
                 taken: &taken,
             },
         );
-        let outcome = answered(state, stream, &taken);
-        events.push(CoreStep::Arrive { stream, taken });
-        outcome
+        kept(events, state, stream, taken)
     }
 
     /// Ticks, and keeps the step. Where the list is full, the base is brought up first.
@@ -215,6 +214,47 @@ impl<C: Core + Drop, N: Naming<C::Settings>> Replayed<C, N> {
         let is_some = state.pop_into(row);
         events.push(CoreStep::Pop);
         is_some
+    }
+}
+
+/// Keeps what arrived as the last step, and answers it where it lies: so it is moved once.
+#[inline(always)]
+fn kept<C: Core>(
+    events: &mut Held<CoreStep>,
+    state: &mut C,
+    stream: usize,
+    taken: KeptArrival,
+) -> Outcome
+    requires room { length events.old.items < events.old.capacity }
+    requires fits { C.Settings.fits (C.settings_of state.old) stream (taken_view taken) ≡ true }
+    ensures answer { (g : Given) (E : List Entry) → C.stands_for state.old g E →
+        result ≡ (C.rules g E stream (taken_view taken)).outcome }
+    ensures stands { (bytes : List ℕ) → C.Settings.says (C.settings_of state.old) stream bytes
+        (taken_view taken) →
+        Follows C.rules (C.stands_for state.old) (C.stands_for state.new)
+        (ToArrive stream bytes (taken_view taken)) }
+    ensures counts { C.counts_of state.new ≡ after_answer result (C.counts_of state.old) }
+    ensures popped { C.popped_of state.new ≡ C.popped_of state.old }
+    ensures settings { C.settings_of state.new ≡ C.settings_of state.old }
+    ensures event { events.new.items ≡ events.old.items ++ step.Arrive stream taken ∷ [] }
+    ensures capacity { events.new.capacity ≡ events.old.capacity }
+{
+    let place = events.len();
+    events.push(CoreStep::Arrive { stream, taken });
+    let event = events.item(place);
+    answered(state, stream, arrival_of(event))
+}
+
+/// What a step keeps by which something arrived.
+#[inline(always)]
+fn arrival_of(event: &CoreStep) -> &KeptArrival
+    requires { (stream : ℕ) × (taken : KeptArrivalData) × (event.now ≡ step.Arrive stream taken) }
+    ensures { (stream : ℕ) (taken : KeptArrivalData) → event.now ≡ step.Arrive stream taken →
+        result.now ≡ taken }
+{
+    match event {
+        CoreStep::Arrive { taken, .. } => taken,
+        _ => unreachable!(),
     }
 }
 
