@@ -1,5 +1,5 @@
 //! A core beside a base from which the steps since lead to it.
-ghost use Rattle.std.specs.Prelude.{◌≡◌, ◌≤◌, ◌<◌, ◌∷◌, ◌++◌, ℕ, IfOk, List, OnErr, Some, []};
+ghost use Rattle.std.specs.Prelude.{◌≡◌, ◌+◌, ◌≤◌, ◌<◌, ◌∷◌, ◌++◌, ℕ, IfOk, List, OnErr, Some, []};
 ghost use Rattle.std.specs.Prelude.{false, length, true};
 ghost use Rattle.std.specs.List.{list_all};
 ghost use Rattle.pdc_core.specs.Step.{after_answer, is_allowed, ticked_of};
@@ -237,6 +237,7 @@ fn kept<C: Core>(
     ensures popped { C.popped_of state.new ≡ C.popped_of state.old }
     ensures settings { C.settings_of state.new ≡ C.settings_of state.old }
     ensures event { events.new.items ≡ events.old.items ++ step.Arrive stream taken ∷ [] }
+    ensures len { length events.new.items ≡ length events.old.items + 1 }
     ensures capacity { events.new.capacity ≡ events.old.capacity }
 {
     let place = events.len();

@@ -6,8 +6,8 @@ use Rattle.pdc_hub.proofs.Held.{arrived, still, suits}
 use Rattle.pdc_hub.proofs.Replays.{all_more}
 use Rattle.pdc_hub.proofs.replayed.Replayed.arrive.Goals as goal
 
-pub kept-requires-fits : goal.kept-requires-fits
-kept-requires-fits g c =
+pub kept-requires-clause-fits : goal.kept-requires-clause-fits
+kept-requires-clause-fits g c =
     suits g.C.Settings.Reads.says g.C.Settings.Reads.fits g.N.Naming.settings c.args.stream c.args.bytes.now (taken_view c.args.taken) (g.C.Core.settings_of c.bring_up.new.self.state) c.requires.read c.bring_up.new.self.state_settings
 
 pub invariant_of-self : goal.invariant_of-self
