@@ -14,7 +14,7 @@ use pdc_record::{Begun, Entry, What};
 use std::alloc::Global;
 
 /// What stands at the front of a file, behind its first entry.
-#[derive(Clone, Copy, Debug, PartialEq, Eq)]
+#[derive(Clone, Copy)]
 enum Front {
     /// Steps that bring the core to where the file begins.
     Carried {

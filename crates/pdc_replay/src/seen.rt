@@ -13,7 +13,7 @@ pub struct Section {
 }
 
 /// The sections of PMUs of a layout, in the order of the columns.
-#[derive(Debug, Drop)]
+#[derive(Drop)]
 pub(crate) struct Layout {
     /// The change number.
     pub change: u32,
