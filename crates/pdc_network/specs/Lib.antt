@@ -7,6 +7,7 @@ pub mod Host
 pub mod Inquiry
 pub mod Limit
 pub mod Linked
+pub mod Outputs
 pub mod Passing
 pub mod Received
 pub mod Round

@@ -1,5 +1,5 @@
 -- What came by the way of a link.
-use Rattle.std.specs.Prelude.{◌≡◌, ℕ, List, [], Option, None, option_map}
+use Rattle.std.specs.Prelude.{◌≡◌, ℕ, List, [], Option, None, Some, option_map}
 use Rattle.std.specs.declared.net.ip_addr.IpAddr.{IpAddr}
 use Rattle.pdc_ports.specs.Heard.{Heard}
 use Rattle.pdc_session.specs.Counting.{inner_of}
@@ -21,6 +21,19 @@ socket_of source = source.socket
 -- the address whose datagrams it reads alone, if there is one
 abbrev pub read_from : {S : Type 0} → UdpSource S → Option IpAddr
 read_from source = source.from
+
+-- the source of a port
+abbrev pub source_at : {R S : Type 0} → Port R S → UdpSource S
+source_at port = port.source
+
+-- the source of a way, where that is a port
+abbrev pub source_by : {R S D T : Type 0} → Way R S D T → Option (UdpSource S)
+source_by (Datagrams port) = Some port.source
+source_by (Stream connection) = None
+
+-- and of a link
+abbrev pub source_of : {R S D T : Type 0} → Link R S D T → Option (UdpSource S)
+source_of link = source_by link.way
 
 -- The port said this, and it is what its socket received.
 abbrev pub IsHeardAt : {R S : Type 0} (received : S → List Received → Type 0) → Port R S → List Heard → Type 0

@@ -1,5 +1,6 @@
 //! The frames of a stream, however they come.
-ghost use Rattle.std.specs.Prelude.{◌≡◌, ◌≢◌, ◌≤◌, ◌<◌, ℕ, List, [], false, length, true};
+ghost use Rattle.std.specs.Prelude.{◌≡◌, ◌≢◌, ◌≤◌, ◌<◌, ℕ, List, None, Some, [], false, length};
+ghost use Rattle.std.specs.Prelude.{true};
 ghost use Rattle.pdc_ports.specs.Heard.{Heard, heard_by};
 ghost use Rattle.pdc_network.specs.Limit.{most_of};
 ghost use Rattle.pdc_network.specs.Passing.{IsLeftOut};
@@ -41,10 +42,12 @@ impl<
     D: Dial + Drop,
 > Link<'a, R, S, D> {
     ghost use Rattle.pdc_network.specs.Linked.{IsFreshConnection, IsFreshLink, IsFreshPort};
-    ghost use Rattle.pdc_network.specs.Linked.{IsHeardAt, IsHeardOver, limit_of};
+    ghost use Rattle.pdc_network.specs.Linked.{IsHeardAt, IsHeardOver, limit_of, source_at};
+    ghost use Rattle.pdc_network.specs.Linked.{source_of};
 
     /// They come to this port.
     pub fn at(port: Port<'a, R, S>) -> Link<'a, R, S, D>
+        ensures source { source_of result ≡ Some (source_at port.entry) }
         ensures fresh { IsFreshPort S.received port.entry → IsFreshLink S.received D.dialed result }
         ensures tells { (heard : List Heard) → IsHeardAt S.received port.entry heard
             → ⟦<Link<'a, R, S, D> as Source>⟧.told result heard }
@@ -59,6 +62,7 @@ impl<
 
     /// They come over this connection.
     pub fn over(connection: Connection<'a, R, D>) -> Link<'a, R, S, D>
+        ensures source { source_of result ≡ None }
         ensures fresh { IsFreshConnection D.dialed connection.entry →
             IsFreshLink S.received D.dialed result }
         ensures tells { (heard : List Heard) →
@@ -76,6 +80,7 @@ impl<
     /// Leaves out what this limit leaves out, if there is one.
     pub fn set_limit(&mut self, limit: Option<CountLimit<'a, R>>)
         ensures limit { limit_of self.new ≡ most_of limit.entry }
+        ensures source { source_of self.new ≡ source_of self.old }
         ensures fresh { IsFreshLink S.received D.dialed self.old →
             IsFreshLink S.received D.dialed self.new }
         // Where nothing came by its way yet it said nothing, whatever the limit is.

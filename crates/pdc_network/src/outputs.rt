@@ -41,8 +41,13 @@ pub struct UdpOutputs<S: SendTo + Drop = UdpSocket> {
 }
 
 impl<S: SendTo + Drop> UdpOutputs<S> {
+    ghost use Rattle.pdc_network.specs.Outputs.{further_of, sink_of};
+
     /// Sends to the loopback and to these.
-    pub fn new(loopback: UdpSink<S>, destinations: Vec<Destination<S>>) -> UdpOutputs<S> {
+    pub fn new(loopback: UdpSink<S>, destinations: Vec<Destination<S>>) -> UdpOutputs<S>
+        ensures sink { sink_of result ≡ loopback }
+        ensures further { further_of result ≡ destinations.items }
+    {
         UdpOutputs {
             loopback,
             destinations,

@@ -29,7 +29,7 @@ pub struct Port<'a, R: Clock, S: Receive + Drop = UdpSocket> {
 }
 
 impl<'a, R: Clock, S: Receive + Drop> Port<'a, R, S> {
-    ghost use Rattle.pdc_network.specs.Linked.{IsFreshPort, IsHeardAt, socket_of};
+    ghost use Rattle.pdc_network.specs.Linked.{IsFreshPort, IsHeardAt, socket_of, source_at};
 
     /// The frames of the stream `id` at this port, with what counts for it, and where its sender takes commands, if it is asked.
     pub fn new(
@@ -39,6 +39,7 @@ impl<'a, R: Clock, S: Receive + Drop> Port<'a, R, S> {
         id: StreamId,
         commands: Option<SocketAddr>,
     ) -> Port<'a, R, S>
+        ensures source { source_at result ≡ source }
         ensures fresh { S.received (socket_of source) [] → IsFreshPort S.received result }
         ensures tells { (heard : List Heard) → ⟦<UdpSource<S> as Source>⟧.told source heard →
             IsHeardAt S.received result heard }

@@ -16,7 +16,7 @@ use Rattle.pdc_mark.specs.declared.stored.Stored.{Stored}
 use Rattle.pdc_pipe.specs.declared.message.Message.{Message}
 use Rattle.pdc_ports.specs.Heard.{Heard, TellsFrom}
 use Rattle.pdc_row.specs.declared.output.Output.{Output}
-use Rattle.pdc_startup.specs.declared.concentrator.Concentrator.{Concentrator}
+use Rattle.pdc_startup.specs.pdc_sockets.declared.concentrator.Concentrator.{Concentrator}
 use Rattle.pdc_startup.specs.declared.fault.ServiceFault.{ServiceFault}
 use Rattle.pdc_startup.specs.declared.fault.ServiceFault.TheVariants.{Run}
 use Rattle.pdc_threads.specs.declared.totals.Totals.{Totals}

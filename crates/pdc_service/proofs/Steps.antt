@@ -3,11 +3,11 @@ use Rattle.std.proofs.Common.{◌≡◌, ◌++◌, ◌∷◌, List, None, Result
 use Rattle.std.specs.Prelude.{IfErr, Option}
 use Rattle.pdc_mark.specs.declared.stored.Stored.{Stored}
 use Rattle.pdc_hub.specs.declared.fault.HubFault.TheVariants.{NoMemory}
-use Rattle.pdc_startup.specs.Concentrator.{IsMerger, streams_of}
+use Rattle.pdc_startup.specs.pdc_sockets.Concentrator.{IsMerger, streams_of}
 use Rattle.pdc_startup.specs.Faults.{IsOfFile, IsOfRun}
 use Rattle.pdc_startup.specs.Steps.{Attempt, HasOpened, HasStarted, IsFaultOf, Tells, steps_with}
-use Rattle.pdc_startup.specs.declared.concentrator.Concentrator.{Concentrator}
-use Rattle.pdc_startup.specs.declared.concentrator.Concentrator.TheVariants.{Merger, Node}
+use Rattle.pdc_startup.specs.pdc_sockets.declared.concentrator.Concentrator.{Concentrator}
+use Rattle.pdc_startup.specs.pdc_sockets.declared.concentrator.Concentrator.TheVariants.{Merger, Node}
 use Rattle.pdc_startup.specs.declared.described.Described.{Described}
 use Rattle.pdc_startup.specs.declared.described.Files.{Files}
 use Rattle.pdc_startup.specs.declared.described.Step.{Step}

@@ -4,8 +4,8 @@ use Rattle.pdc_life.specs.CoreKind.{CoreKind, given_of, OfMerger, OfNode, output
 use Rattle.pdc_aligner.specs.Device.{Standing}
 use Rattle.pdc_hub.specs.declared.fault.HubFault.{HubFault}
 use Rattle.pdc_ports.specs.Heard.{Heard}
-use Rattle.pdc_startup.specs.declared.concentrator.Concentrator.{Concentrator}
-use Rattle.pdc_startup.specs.declared.concentrator.Concentrator.TheVariants.{Merger, Node}
+use Rattle.pdc_startup.specs.pdc_sockets.declared.concentrator.Concentrator.{Concentrator}
+use Rattle.pdc_startup.specs.pdc_sockets.declared.concentrator.Concentrator.TheVariants.{Merger, Node}
 use Rattle.pdc_threads.specs.OneRun.{Found, IsOneRun}
 use Rattle.pdc_threads.specs.Run.{HasRun}
 use Rattle.pdc_threads.specs.declared.totals.Totals.{Totals}

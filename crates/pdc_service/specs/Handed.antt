@@ -11,7 +11,7 @@ use Rattle.pdc_pipe.specs.declared.message.Message.{Message}
 use Rattle.pdc_ports.specs.Heard.{Heard}
 use Rattle.pdc_startup.specs.declared.fault.ServiceFault.{ServiceFault}
 use Rattle.pdc_startup.specs.declared.fault.ServiceFault.TheVariants.{Clock, Run}
-use Rattle.pdc_startup.specs.Watching.{AreSilent}
+use Rattle.pdc_startup.specs.pdc_sockets.Silent.{AreSilent}
 use Rattle.pdc_threads.specs.OneRun.{Found, IsOneRun, found_by}
 use Rattle.pdc_threads.specs.declared.totals.Totals.{Totals}
 use Rattle.pdc_ticking.specs.Instants.{instant_of}

@@ -8,10 +8,10 @@ use Rattle.pdc_service.specs.Handed.{HasTaken, WasHanded}
 use Rattle.pdc_service.specs.Summed.{AreSums, HaveEach}
 use Rattle.pdc_service.specs.declared.serving.Opened.{Opened}
 use Rattle.pdc_startup.specs.Begun.{begun_mark}
-use Rattle.pdc_startup.specs.Concentrator.{output_of, service_of, streams_of}
+use Rattle.pdc_startup.specs.pdc_sockets.Concentrator.{output_of, service_of, streams_of}
 use Rattle.pdc_startup.specs.Faults.{IsOfRun}
 use Rattle.pdc_startup.specs.Steps.{Attempt, HasOpened, HasStarted}
-use Rattle.pdc_startup.specs.declared.concentrator.Concentrator.{Concentrator}
+use Rattle.pdc_startup.specs.pdc_sockets.declared.concentrator.Concentrator.{Concentrator}
 use Rattle.pdc_startup.specs.declared.described.Described.{Described}
 use Rattle.pdc_startup.specs.declared.described.Files.{Files}
 use Rattle.pdc_startup.specs.declared.described.Step.{Step}

@@ -3,10 +3,8 @@
 use crate::porter::JournalPorter;
 use crate::serving::{Consumers, Serving};
 use pdc_journal::Journal;
-use pdc_metrics::{Metered, OwnFiles, serve_metrics};
-use pdc_recording::{Series, Shelf, write_record};
 use pdc_server::{Naming, Recent, Reception, serve};
-use pdc_startup::Observed;
+use pdc_startup::{Metered, Observed, OwnFiles, Series, Shelf, serve_metrics, write_record};
 use std::alloc::Global;
 use std::net::TcpListener;
 use std::random::RandomSource;

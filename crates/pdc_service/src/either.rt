@@ -3,7 +3,7 @@ ghost use Rattle.std.specs.Prelude.{◌≡◌, IfOk, vec_len};
 ghost use Rattle.pdc_service.specs.Ended.{IsOver};
 ghost use Rattle.pdc_service.specs.Running.{found_begun};
 ghost use Rattle.pdc_service.specs.Summed.{AreSums, HaveEach};
-ghost use Rattle.pdc_startup.specs.Concentrator.{streams_of};
+ghost use Rattle.pdc_startup.specs.pdc_sockets.Concentrator.{streams_of};
 ghost use Rattle.pdc_threads.specs.Run.{GivesFrom};
 
 use crate::handed::Handed;

@@ -1,7 +1,6 @@
 //! What a concentrator needs of the machine that it runs on.
 
-use pdc_metrics::OwnFiles;
-use pdc_recording::Shelf;
+use pdc_startup::{OwnFiles, Shelf};
 use std::fs::File;
 use std::net::{Net, TcpListener, TcpStream};
 use std::random::RandomSource;

@@ -1,7 +1,6 @@
 //! What a concentrator reports when it begins and when it ends.
 
-use pdc_settings::{Input, Network, UnknownKey};
-use pdc_startup::Concentrator;
+use pdc_startup::{Concentrator, Input, Network, UnknownKey};
 use std::alloc::{AllocError, Global};
 use std::fmt::Write;
 

@@ -4,9 +4,9 @@ ghost use Rattle.pdc_service.specs.Serving.{OpensAndRuns, StartsAndRuns, steps_b
 ghost use Rattle.pdc_service.specs.Serving.{steps_behind_mark};
 ghost use Rattle.pdc_service.specs.Summed.{AreSums, HaveEach};
 ghost use Rattle.pdc_startup.specs.Begun.{begun_mark};
-ghost use Rattle.pdc_startup.specs.Concentrator.{IsMerger, IsNode, streams_of};
+ghost use Rattle.pdc_startup.specs.pdc_sockets.Concentrator.{IsMerger, IsNode, streams_of};
 ghost use Rattle.pdc_startup.specs.Steps.{steps_with};
-ghost use Rattle.pdc_startup.specs.Watching.{AreSilent};
+ghost use Rattle.pdc_startup.specs.pdc_sockets.Silent.{AreSilent};
 
 use crate::host::Host;
 use crate::run_texts::{begun_text, unknown_text};

@@ -2,8 +2,8 @@
 ghost use Rattle.std.specs.Prelude.{◌≡◌, vec_len};
 ghost use Rattle.pdc_service.specs.Handed.{TicksBy, answer_to};
 ghost use Rattle.pdc_service.specs.Serving.{IsRunOf, RanServing};
-ghost use Rattle.pdc_startup.specs.declared.concentrator.Concentrator.{Concentrator};
-ghost use Rattle.pdc_startup.specs.Concentrator.{output_of, streams_of};
+ghost use Rattle.pdc_startup.specs.pdc_sockets.declared.concentrator.Concentrator.{Concentrator};
+ghost use Rattle.pdc_startup.specs.pdc_sockets.Concentrator.{output_of, streams_of};
 ghost use Rattle.pdc_threads.specs.Run.{GivesFrom};
 
 use crate::beside::{start_journal, start_metrics, start_record, start_sessions};
@@ -11,12 +11,8 @@ use crate::either::run_concentrator;
 use crate::run_texts::unsent_text;
 use pdc_journal::{AnnouncingSink, CountingSink, Reporting, RunCounters};
 use pdc_mark::Mark;
-use pdc_metrics::OwnFiles;
-use pdc_recording::{RecordedTicker, Series, Shelf};
 use pdc_server::{Naming, Recent, RememberingSink, Seats};
-use pdc_startup::{
-    Begun, Concentrator, ControlledTicker, Observed, RunOptions, ServiceFault, observe_all, plan_of,
-};
+use pdc_startup::{Begun, Concentrator, ControlledTicker, Observed, OwnFiles, RecordedTicker, RunOptions, Series, ServiceFault, Shelf, observe_all, plan_of};
 use pdc_threads::{HubFault, Sink, Source, Ticker, Totals};
 use pdc_ticking::{ClockTicker, Rated, Timepiece, WatchedTicker};
 use std::alloc::Global;

@@ -1,6 +1,5 @@
 -- One more of a list that is made item by item of another one.
-use Rattle.std.proofs.Common.{arith, ◌≡◌, ◌∙◌, ◌++◌, ◌∷◌, List, [], ap, append_assoc, length, map, refl, subst, sym}
-use Rattle.std.specs.List.{AllByRecursion}
+use Rattle.std.proofs.Common.{arith, ◌≡◌, ◌∙◌, ◌++◌, ◌∷◌, List, [], ap, append_assoc, length, map, refl, sym}
 
 map_more : {A B : Type 0} (f : A → B) (xs : List A) (x : A) → map f (xs ++ x ∷ []) ≡ map f xs ++ f x ∷ []
 map_more f [] x = refl
@@ -13,11 +12,3 @@ map_on f xs more x old rest ys m o e =
 pub nothing_left : {X : Type 0} (l : List X) → length l ≡ 0 → l ≡ []
 nothing_left [] h = refl
 nothing_left (x ∷ xs) h = absurd (omega arith)
-
-all_with : {A : Type 0} (P : A → Type 0) (xs : List A) (x : A) → AllByRecursion P xs → P x → AllByRecursion P (xs ++ x ∷ [])
-all_with P [] x all one = (one, tt)
-all_with P (y ∷ xs) x all one = (all.0, all_with P xs x all.1 one)
-
--- what holds of all, and of one more
-pub all_push : {A : Type 0} (P : A → Type 0) (xs more : List A) (x : A) → more ≡ xs ++ x ∷ [] → AllByRecursion P xs → P x → AllByRecursion P more
-all_push P xs more x m all one = subst (AllByRecursion P) (sym m) (all_with P xs x all one)

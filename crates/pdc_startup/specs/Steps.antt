@@ -3,7 +3,7 @@ use Rattle.std.specs.Prelude.{◌≡◌, ◌++◌, ◌∷◌, List, Option, Some
 use Rattle.pdc_mark.specs.declared.stored.Stored.{Stored}
 use Rattle.pdc_hub.specs.declared.fault.HubFault.TheVariants.{NoMemory}
 use Rattle.pdc_startup.specs.Faults.{IsOfFile, IsOfListener, IsOfMark, IsOfRecord, IsOfRun, IsOfSink, IsOfSources}
-use Rattle.pdc_startup.specs.declared.concentrator.Concentrator.{Concentrator}
+use Rattle.pdc_sockets.specs.declared.concentrator.Concentrator.{Concentrator}
 use Rattle.pdc_startup.specs.declared.described.Described.{Described}
 use Rattle.pdc_startup.specs.declared.described.Files.{Files}
 use Rattle.pdc_startup.specs.declared.described.Step.{Step}

@@ -4,9 +4,9 @@ ghost use Rattle.pdc_settings.specs.Document.{IsDocumentOf};
 ghost use Rattle.pdc_settings.specs.Said.{SaysNetwork};
 ghost use Rattle.pdc_startup.specs.Said.{Says};
 
-use crate::concentrator::Concentrator;
 use crate::recorded::RecordFile;
 use pdc_settings::{Document, Network};
+use pdc_sockets::Concentrator;
 
 /// The files of a concentrator, by their names.
 #[derive(Clone, Copy)]

@@ -1,9 +1,9 @@
 //! What the settings say of a stream, for what is told of its sender.
 
-use crate::concentrator::Concentrator;
 use arrayvec::ArrayVec;
 use pdc_journal::Expected;
 use pdc_settings::{MergerSettings, NodeSettings};
+use pdc_sockets::Concentrator;
 
 /// What a node's settings say of the PMU with this number.
 fn of_pmu(settings: &NodeSettings, number: usize) -> Option<Expected> {

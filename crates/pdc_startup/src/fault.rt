@@ -1,10 +1,13 @@
 //! Why a node or the merger did not run to its end.
 ghost use Rattle.std.specs.Prelude.{◌≡◌};
+ghost use Rattle.pdc_sockets.specs.Faults.{IsOfLinks, IsOfOutputs, IsOfPort};
+ghost use Rattle.pdc_startup.specs.Faults.{IsOfListener, IsOfSink, IsOfSources};
 ghost use Rattle.pdc_startup.specs.Status.{status_of, status_of_load};
 
 use pdc_hub::HubFault;
 use pdc_mark::MarkFault;
 use pdc_settings::SettingsFault;
+use pdc_sockets::OpenFault;
 use std::fmt::{Display, Formatter, Write};
 use std::net::SocketAddr;
 use std::{fmt, io};
@@ -58,6 +61,20 @@ impl Display for ServiceFault {
 }
 
 impl std::error::Error for ServiceFault {}
+
+/// The fault of a startup in which something was not opened for this cause.
+pub(crate) fn unopened(fault: OpenFault) -> ServiceFault
+    ensures links { IsOfLinks fault → IsOfSources result }
+    ensures outputs { IsOfOutputs fault → IsOfSink result }
+    ensures port { IsOfPort fault → IsOfListener result }
+{
+    match fault {
+        OpenFault::Port(at, error) => ServiceFault::Port(at, error),
+        OpenFault::Output(number, error) => ServiceFault::Output(number, error),
+        OpenFault::Input(id, error) => ServiceFault::Input(id, error),
+        OpenFault::NoMemory => ServiceFault::Run(HubFault::NoMemory),
+    }
+}
 
 /// The exit status of input that was refused.
 const REFUSED: u8 = 1;

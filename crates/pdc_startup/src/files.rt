@@ -1,17 +1,17 @@
 //! The files of a concentrator.
 ghost use Rattle.std.specs.Prelude.{◌≡◌, IfErr, IfOk, string_bytes};
 ghost use Rattle.pdc_settings.specs.Document.{IsDocumentOf};
-ghost use Rattle.pdc_startup.specs.Concentrator.{IsMerger, IsNode};
+ghost use Rattle.pdc_sockets.specs.Concentrator.{IsMerger, IsNode};
 ghost use Rattle.pdc_startup.specs.Faults.{IsOfMark, IsOfSettings};
 ghost use Rattle.pdc_startup.specs.Said.{Says};
 
 use crate::begun::Begun;
-use crate::concentrator::Concentrator;
 use crate::described::Described;
 use crate::fault::{LoadFault, ServiceFault};
 use pdc_disk::FileDisk;
 use pdc_mark::DiskMark;
 use pdc_settings::{Document, MergerSettings, Network, NodeSettings, SettingsFault};
+use pdc_sockets::Concentrator;
 use std::alloc::Global;
 use std::fs::File;
 use std::io::ErrorKind;

@@ -8,7 +8,6 @@
 #![tactic(auto)]
 
 mod begun;
-mod concentrator;
 mod described;
 mod expecting;
 mod fault;
@@ -18,15 +17,12 @@ mod observing;
 mod options;
 mod outputs_sink;
 mod plan;
-mod ports;
 mod recorded;
 mod signs;
-mod silent;
 mod system_outputs;
 mod timed_mark;
 
 pub use begun::Begun;
-pub use concentrator::Concentrator;
 pub use described::{Described, Files, Step};
 pub use fault::{LoadFault, ServiceFault};
 pub use files::read_settings_text;
@@ -38,8 +34,10 @@ pub use pdc_control::{
     AskFault, Control, ControlFault, ControlSocket, ControlledTicker, Form, Head, MAX_PATH,
     Request, ask, serve_control,
 };
-pub use pdc_network::{Link, TcpDialer};
-pub use pdc_recording::Limits;
+pub use pdc_metrics::{Metered, OwnFiles, serve_metrics};
+pub use pdc_recording::{Limits, RecordedTicker, Series, Shelf, write_record};
+pub use pdc_settings::{Input, Network, UnknownKey};
+pub use pdc_sockets::{Concentrator, Link, TcpDialer};
 pub use plan::{MAX_LIMIT, Plan, plan_of};
 pub use recorded::RecordFile;
 pub use signs::Signs;

@@ -1,11 +1,11 @@
 //! The steps of a startup, as a machine tries them.
 ghost use Rattle.std.specs.Prelude.{◌≡◌, List, IfErr, IfOk, [], ◌∷◌, vec_len};
 ghost use Rattle.pdc_startup.specs.Begun.{begun_mark};
-ghost use Rattle.pdc_startup.specs.Concentrator.{IsMerger, IsNode, streams_of};
+ghost use Rattle.pdc_sockets.specs.Concentrator.{IsMerger, IsNode, streams_of};
 ghost use Rattle.pdc_startup.specs.Faults.{IsOfFile, IsOfListener, IsOfMark, IsOfRecord};
 ghost use Rattle.pdc_startup.specs.Faults.{IsOfSink, IsOfSources};
 ghost use Rattle.pdc_startup.specs.Steps.{Attempt, Tells, attempt, beginning, reading};
-ghost use Rattle.pdc_startup.specs.Watching.{AreSilent};
+ghost use Rattle.pdc_sockets.specs.Silent.{AreSilent};
 ghost use Rattle.pdc_startup.specs.declared.described.Step.TheVariants.{BeginRecord};
 ghost use Rattle.pdc_startup.specs.declared.described.Step.TheVariants.{OpenListener};
 ghost use Rattle.pdc_startup.specs.declared.described.Step.TheVariants.{OpenMetrics, OpenSink};
@@ -13,17 +13,19 @@ ghost use Rattle.pdc_startup.specs.declared.described.Step.TheVariants.{OpenSour
 
 use crate::begun::Begun;
 use crate::described::{Described, Files};
-use crate::fault::ServiceFault;
+use crate::fault::{ServiceFault, unopened};
 use crate::files::{begin_mark, merger_of, node_of, read_settings_text};
 use crate::observing::Observed;
-use crate::ports::{open_links, open_listener, open_metrics, open_outputs};
 use crate::recorded::open_record;
 use crate::system_outputs::SystemOutputs;
 use pdc_disk::FileDisk;
 use pdc_mark::{DiskMark, Mark};
-use pdc_network::{Link, Outputs, Receive, TcpDialer};
 use pdc_ports::Source;
 use pdc_recording::{Series, Shelf};
+use pdc_sockets::{
+    Link, Outputs, Receive, SystemSockets, Tallies, TcpDialer, open_links, open_listener,
+    open_metrics, open_outputs,
+};
 use std::fs::File;
 use std::net::{Net, TcpListener, TcpStream, UdpSocket};
 use std::rt::{Clock, Files as HostFiles};
@@ -243,13 +245,15 @@ impl Machine for ThisMachine {
         described: &Described,
         observed: &'a Observed,
     ) -> Result<Vec<Link<'a, R>>, ServiceFault> {
-        open_links(
-            rt,
-            rt.alloc(),
-            &described.network,
-            &described.concentrator,
-            observed,
-        )
+        let (network, concentrator) = (&described.network, &described.concentrator);
+        let tallies = Tallies {
+            journal: &observed.journal,
+            each: observed.tallies.as_slice(),
+        };
+        match open_links(&SystemSockets, rt, rt.alloc(), network, concentrator, tallies) {
+            Ok(links) => Ok(links),
+            Err(fault) => Err(unopened(fault)),
+        }
     }
 
     fn open_outputs<R: Net + AllocGlobal>(
@@ -257,10 +261,10 @@ impl Machine for ThisMachine {
         rt: &R,
         described: &Described,
     ) -> Result<SystemOutputs, ServiceFault> {
-        let port = described.concentrator.service_settings().out_port;
-        match open_outputs(rt, rt.alloc(), &described.network, port) {
+        let (network, concentrator) = (&described.network, &described.concentrator);
+        match open_outputs(&SystemSockets, rt, rt.alloc(), network, concentrator) {
             Ok(sockets) => Ok(SystemOutputs::new(sockets)),
-            Err(fault) => Err(fault),
+            Err(fault) => Err(unopened(fault)),
         }
     }
 
@@ -269,8 +273,10 @@ impl Machine for ThisMachine {
         rt: &R,
         described: &Described,
     ) -> Result<TcpListener, ServiceFault> {
-        let port = described.concentrator.service_settings().session_port;
-        open_listener(rt, described.network.address, port)
+        match open_listener(&SystemSockets, rt, &described.network, &described.concentrator) {
+            Ok(listener) => Ok(listener),
+            Err(fault) => Err(unopened(fault)),
+        }
     }
 
     fn open_metrics<R: Net<Listener = TcpListener, Stream = TcpStream>>(
@@ -278,6 +284,9 @@ impl Machine for ThisMachine {
         rt: &R,
         described: &Described,
     ) -> Result<Option<TcpListener>, ServiceFault> {
-        open_metrics(rt, described.network.metrics_port)
+        match open_metrics(&SystemSockets, rt, &described.network) {
+            Ok(listener) => Ok(listener),
+            Err(fault) => Err(unopened(fault)),
+        }
     }
 }

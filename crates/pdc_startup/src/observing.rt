@@ -1,9 +1,8 @@
 //! What is watched of a run.
 ghost use Rattle.std.specs.Prelude.{◌≡◌, IfOk, IfSome, is_some, map, vec_len};
-ghost use Rattle.pdc_startup.specs.Concentrator.{is_woken, service_of};
+ghost use Rattle.pdc_sockets.specs.Concentrator.{is_woken, service_of};
 ghost use Rattle.pdc_startup.specs.Watching.{source_in};
 
-use crate::concentrator::Concentrator;
 use crate::expecting::expected_of;
 use crate::signs::Signs;
 use arrayvec::ArrayVec;
@@ -15,6 +14,7 @@ use pdc_metrics::{Metered, MeteredRecord, Stores, StreamPort};
 use pdc_ports::Source;
 use pdc_recording::{RecordedSource, Recording, Written};
 use pdc_settings::{Network, TickWhen};
+use pdc_sockets::Concentrator;
 use pdc_ticking::{HoldingSource, LastTick, Patience, Wake};
 use std::alloc::{AllocError, Global};
 use std::net::SocketAddr;

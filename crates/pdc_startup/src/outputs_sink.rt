@@ -2,8 +2,8 @@
 ghost use Rattle.std.specs.Prelude.{◌≡◌, List, ℕ};
 
 use pdc_journal::OutputTally;
-use pdc_network::Outputs;
 use pdc_ports::{Sink, SinkFault};
+use pdc_sockets::Outputs;
 
 /// Sends each frame to each of the further destinations, and then as the outputs do. A destination that cannot be reached is counted for
 /// it alone: the others get their frames.

@@ -3,11 +3,11 @@ ghost use Rattle.std.specs.Prelude.{IfErr};
 ghost use Rattle.pdc_startup.specs.Faults.{IsOfRecord};
 
 use crate::begun::Begun;
-use crate::concentrator::Concentrator;
 use crate::described::Described;
 use crate::fault::ServiceFault;
 use pdc_mark::Mark;
 use pdc_recording::{Begun as BegunEntry, Limits, Role, Series, Shelf, nanoseconds_now};
+use pdc_sockets::Concentrator;
 use pdc_version::VERSION_NUMBERS;
 use std::alloc::Global;
 use std::rt::Clock;

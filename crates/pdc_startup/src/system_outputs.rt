@@ -1,8 +1,8 @@
 //! The outputs of the machine that the program runs on.
 ghost use Rattle.std.specs.Prelude.{◌≡◌, List, ℕ};
 
-use pdc_network::{Outputs, UdpOutputs};
 use pdc_ports::{Sink, SinkFault};
+use pdc_sockets::{Outputs, UdpOutputs};
 use std::net::UdpSocket;
 
 /// The sockets of this machine from which frames go. It took what they took, and its further destinations were handed what theirs were.

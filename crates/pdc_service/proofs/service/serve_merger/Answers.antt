@@ -2,7 +2,7 @@ use Rattle.std.proofs.Common.{subst}
 use Rattle.std.specs.Prelude.{IfOk}
 use Rattle.pdc_service.specs.Summed.{HaveEach}
 use Rattle.std.proofs.lemmas.Result.{err_from_is_err_and}
-use Rattle.pdc_startup.specs.Concentrator.{IsMerger}
+use Rattle.pdc_startup.specs.pdc_sockets.Concentrator.{IsMerger}
 use Rattle.pdc_service.proofs.Steps.{starts, two_streams, unread}
 use Rattle.pdc_service.proofs.service.serve_merger.Goals as goal
 

@@ -1,5 +1,5 @@
 use Rattle.std.proofs.lemmas.Result.{err_from_is_err_and}
-use Rattle.pdc_startup.specs.Concentrator.{IsNode}
+use Rattle.pdc_startup.specs.pdc_sockets.Concentrator.{IsNode}
 use Rattle.pdc_service.proofs.Steps.{starts, unread}
 use Rattle.pdc_service.proofs.service.serve_node.Goals as goal
 

@@ -1,5 +1,5 @@
 use Rattle.pdc_startup.specs.Begun.{begun_mark}
-use Rattle.pdc_startup.specs.Concentrator.{output_of, service_of}
+use Rattle.pdc_startup.specs.pdc_sockets.Concentrator.{output_of, service_of}
 use Rattle.pdc_service.specs.Ended.{kind_of}
 use Rattle.pdc_service.specs.Handed.{TicksBy}
 use Rattle.pdc_service.proofs.Handing.{nothing_handed, shows_none}

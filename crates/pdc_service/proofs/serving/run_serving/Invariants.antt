@@ -1,5 +1,5 @@
 use Rattle.pdc_server.specs.Stream.{stream_of}
-use Rattle.pdc_startup.specs.Concentrator.{output_of}
+use Rattle.pdc_startup.specs.pdc_sockets.Concentrator.{output_of}
 use Rattle.pdc_service.proofs.serving.run_serving.Given as goal
 
 abbrev pub ghosts-run_named-N-Naming : goal.ghosts-run_named-N-Naming

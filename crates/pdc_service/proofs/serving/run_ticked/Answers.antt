@@ -1,7 +1,7 @@
 use Rattle.std.proofs.Common.{Ok, Result, ap, refl, subst, sym, ◌≡◌, ◌∙◌}
 use Rattle.std.specs.Prelude.{◌+◌, ◌-◌, ◌<◌, ◌^◌, IfErr, IfOk, length}
 use Rattle.pdc_startup.specs.Begun.{begun_mark}
-use Rattle.pdc_startup.specs.Concentrator.{service_of, streams_of}
+use Rattle.pdc_startup.specs.pdc_sockets.Concentrator.{service_of, streams_of}
 use Rattle.pdc_startup.specs.Faults.{IsOfRun}
 use Rattle.pdc_startup.specs.Watching.{source_in}
 use Rattle.pdc_startup.specs.declared.fault.ServiceFault.{ServiceFault}

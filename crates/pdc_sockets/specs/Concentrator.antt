@@ -4,8 +4,8 @@ use Rattle.pdc_row.specs.declared.output.Output.{Output}
 use Rattle.pdc_settings.specs.declared.service.Service.{Service}
 use Rattle.pdc_settings.specs.declared.service.TickWhen.{TickWhen}
 use Rattle.pdc_settings.specs.declared.service.TickWhen.TheVariants.{Period, Whole}
-use Rattle.pdc_startup.specs.declared.concentrator.Concentrator.{Concentrator}
-use Rattle.pdc_startup.specs.declared.concentrator.Concentrator.TheVariants.{Merger, Node}
+use Rattle.pdc_sockets.specs.declared.concentrator.Concentrator.{Concentrator}
+use Rattle.pdc_sockets.specs.declared.concentrator.Concentrator.TheVariants.{Merger, Node}
 
 -- how many streams it takes: one for each PMU, and one for each node
 abbrev pub streams_of : Concentrator → ℕ

@@ -1,8 +1,8 @@
 //! Sources that said nothing yet.
-ghost use Rattle.std.specs.Prelude.{◌≡◌, ◌+◌, [], OnOk, vec_len};
-ghost use Rattle.pdc_startup.specs.Watching.{AreSilent};
+ghost use Rattle.std.specs.Prelude.{◌≡◌, ◌+◌, ◌++◌, ◌∷◌, [], OnOk, vec_len};
+ghost use Rattle.pdc_sockets.specs.Silent.{AreSilent};
 
-use pdc_hub::make_room;
+use pdc_memory::make_room;
 use pdc_ports::Source;
 use std::alloc::{AllocError, Global};
 
@@ -16,7 +16,7 @@ pub struct Silent<S: Source + Drop> {
 impl<S: Source + Drop> Silent<S> {
     /// No source.
     pub fn new(alloc: Global) -> Silent<S>
-        ensures { vec_len result.sources ≡ 0 }
+        ensures { result.sources.items ≡ [] }
     {
         Silent {
             sources: Vec::new(alloc),
@@ -37,7 +37,7 @@ impl<S: Source + Drop> Silent<S> {
     /// [`AllocError`] where there is no room and none is got; the sources are as they were.
     pub fn push(&mut self, source: S) -> Result<(), AllocError>
         requires { S.told source [] }
-        ensures { OnOk result (vec_len self.new.sources ≡ vec_len self.old.sources + 1) }
+        ensures { OnOk result (self.new.sources.items ≡ self.old.sources.items ++ source ∷ []) }
     {
         let sources = &mut self.sources;
         make_room(sources, 1)?;

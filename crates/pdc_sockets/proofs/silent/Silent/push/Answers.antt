@@ -1,7 +1,7 @@
 use Rattle.std.proofs.Common.{rules, ◌≡◌, ◌∙◌, ◌++◌, ◌∷◌, [], ap}
 use Rattle.std.proofs.Math.Logic.{∥∥₁_map}
-use Rattle.pdc_startup.proofs.InOrder.{all_push}
-use Rattle.pdc_startup.proofs.silent.Silent.push.Goals as goal
+use Rattle.pdc_sockets.proofs.OneMore.{all_push}
+use Rattle.pdc_sockets.proofs.silent.Silent.push.Goals as goal
 
 pub invariant_of-self-2 : goal.invariant_of-self-2
 invariant_of-self-2 g c = record {

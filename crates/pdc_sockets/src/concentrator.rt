@@ -1,6 +1,6 @@
 //! What a node and the merger have in common.
 ghost use Rattle.std.specs.Prelude.{◌≡◌, ◌≤◌, ◌<◌, IfSome};
-ghost use Rattle.pdc_startup.specs.Concentrator.{ahead_of, output_of, service_of};
+ghost use Rattle.pdc_sockets.specs.Concentrator.{ahead_of, output_of, service_of};
 
 use pdc_frame::StreamId;
 use pdc_journal::Tags;

@@ -1,0 +1,6 @@
+pub mod Concentrator
+pub mod Faults
+pub mod Links
+pub mod Listeners
+pub mod Outputs
+pub mod Silent
