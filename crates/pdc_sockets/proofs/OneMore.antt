@@ -1,6 +1,6 @@
 -- One more behind those that are the first of a list.
-use Rattle.std.proofs.Common.{arith, ◌≡◌, ◌++◌, ◌∷◌, ℕ, List, [], Some, length, subst, sym}
-use Rattle.std.proofs.lemmas.Option.{slice_get_within}
+use Rattle.std.proofs.Common.{◌≡◌, ◌++◌, ◌∷◌, ℕ, List, [], Some, length, subst, sym}
+use Rattle.std.proofs.lemmas.Option.{none-some}
 use Rattle.std.specs.List.{AllByRecursion}
 use Rattle.std.specs.Prelude.{IsSomeAnd, slice_get}
 use Rattle.std.specs.declared.net.ip_addr.IpAddr.{IpAddr}
@@ -19,15 +19,12 @@ all_with P (y ∷ xs) x all one = (all.0, all_with P xs x all.1 one)
 pub all_push : {A : Type 0} (P : A → Type 0) (xs more : List A) (x : A) → more ≡ xs ++ x ∷ [] → AllByRecursion P xs → P x → AllByRecursion P more
 all_push P xs more x m all one = subst (AllByRecursion P) (sym m) (all_with P xs x all one)
 
-no_place : {X W : Type 0} (n : ℕ) (x : X) → slice_get {X} [] n ≡ Some x → W
-no_place {X} n x there = let within = slice_get_within {X} [] n x there in absurd (omega (arith, within))
-
 -- one more link
 pub link_more : {R S D T : Type 0} (receives : S → IpAddr → ℕ → ℕ → Type 0) (network : Network) (inputs : List Input) (ports : List ℕ) (links : List (Link R S D T)) (input : Input) (port : ℕ) (link : Link R S D T)
     → AreLinksOf receives network inputs ports links → slice_get inputs (length links) ≡ Some input → slice_get ports (length links) ≡ Some port
     → IsLinkOf receives network port input link → AreLinksOf receives network inputs ports (links ++ link ∷ [])
-link_more receives network [] ports [] input port link all i p one = no_place 0 input i
-link_more receives network (x ∷ inputs) [] [] input port link all i p one = no_place 0 port p
+link_more receives network [] ports [] input port link all i p one = absurd (none-some input i)
+link_more receives network (x ∷ inputs) [] [] input port link all i p one = absurd (none-some port p)
 link_more receives network (x ∷ inputs) (y ∷ ports) [] input port link all i p one =
     (subst (λ o. IsSomeAnd o (λ a. IsLinkOf receives network y a link)) (sym i) (subst (λ o. IsSomeAnd o (λ a. IsLinkOf receives network a input link)) (sym p) one), tt)
 link_more receives network [] ports (l ∷ links) input port link all i p one = absurd all
@@ -38,7 +35,7 @@ link_more receives network (x ∷ inputs) (y ∷ ports) (l ∷ links) input port
 pub destination_more : {S : Type 0} (sends : Destination S → List ℕ → ℕ → Type 0) (hops : ℕ) (texts : List (List ℕ)) (destinations : List (Destination S)) (text : List ℕ) (destination : Destination S)
     → AreDestinationsOf sends hops texts destinations → slice_get texts (length destinations) ≡ Some text → sends destination text hops
     → AreDestinationsOf sends hops texts (destinations ++ destination ∷ [])
-destination_more sends hops [] [] text destination all t one = no_place 0 text t
+destination_more sends hops [] [] text destination all t one = absurd (none-some text t)
 destination_more sends hops (x ∷ texts) [] text destination all t one = (subst (λ o. IsSomeAnd o (λ a. sends destination a hops)) (sym t) one, tt)
 destination_more sends hops [] (d ∷ destinations) text destination all t one = absurd all
 destination_more sends hops (x ∷ texts) (d ∷ destinations) text destination all t one = (all.0, destination_more sends hops texts destinations text destination all.1 t one)

@@ -6,4 +6,4 @@ use Rattle.pdc_sockets.proofs.outputs.open_destinations.Given as goal
 abbrev pub invariant-loop-output : goal.invariant-loop-output
 invariant-loop-output g l =
     (length l.destinations.items ≡ l.output-index)
-    × AreDestinationsOf g.S.Sockets.sends l.fn.network.now.ttl (map string_bytes l.fn.network.now.outputs.items) l.destinations.items
+    × AreDestinationsOf g.S.Sockets.sends l.fn.network.ttl (map string_bytes l.fn.network.outputs.items) l.destinations.items
