@@ -12,7 +12,10 @@ use crate::run_texts::unsent_text;
 use pdc_journal::{AnnouncingSink, CountingSink, Reporting, RunCounters};
 use pdc_mark::Mark;
 use pdc_server::{Naming, Recent, RememberingSink, Seats};
-use pdc_startup::{Begun, Concentrator, ControlledTicker, Observed, OwnFiles, RecordedTicker, RunOptions, Series, ServiceFault, Shelf, observe_all, plan_of};
+use pdc_startup::{
+    Begun, Concentrator, ControlledTicker, Observed, OwnFiles, RecordedTicker, RunOptions, Series,
+    ServiceFault, Shelf, observe_all, plan_of,
+};
 use pdc_threads::{HubFault, Sink, Source, Ticker, Totals};
 use pdc_ticking::{ClockTicker, Rated, Timepiece, WatchedTicker};
 use std::alloc::Global;

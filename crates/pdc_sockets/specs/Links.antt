@@ -5,9 +5,7 @@ use Rattle.pdc_network.specs.Linked.{limit_of, read_from, socket_of, source_of}
 use Rattle.pdc_network.specs.declared.link.Link.{Link}
 use Rattle.pdc_network.specs.declared.udp_source.UdpSource.{UdpSource}
 use Rattle.pdc_settings.specs.declared.input.Input.{Input}
-use Rattle.pdc_settings.specs.declared.merger.MergerSettings.{MergerSettings}
 use Rattle.pdc_settings.specs.declared.network.Network.{Network}
-use Rattle.pdc_settings.specs.declared.node.NodeSettings.{NodeSettings}
 use Rattle.pdc_sockets.specs.declared.concentrator.Concentrator.{Concentrator}
 use Rattle.pdc_sockets.specs.declared.concentrator.Concentrator.TheVariants.{Merger, Node}
 

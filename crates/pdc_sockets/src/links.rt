@@ -85,7 +85,11 @@ fn open_source<S: Sockets, R: Net>(
 }
 
 /// The link over a connection to one of these addresses.
-fn open_connection<'a, S: Sockets, R: Net<Listener = TcpListener, Stream = TcpStream> + Clock + Wait>(
+fn open_connection<
+    'a,
+    S: Sockets,
+    R: Net<Listener = TcpListener, Stream = TcpStream> + Clock + Wait,
+>(
     _sockets: &S,
     rt: &'a R,
     alloc: Global,
@@ -221,7 +225,11 @@ fn open_all<'a, S: Sockets, R: Net<Listener = TcpListener, Stream = TcpStream> +
 /// # Errors
 ///
 /// A port cannot be opened, a place is not known, or memory ran out.
-pub fn open_links<'a, S: Sockets, R: Net<Listener = TcpListener, Stream = TcpStream> + Clock + Wait>(
+pub fn open_links<
+    'a,
+    S: Sockets,
+    R: Net<Listener = TcpListener, Stream = TcpStream> + Clock + Wait,
+>(
     sockets: &S,
     rt: &'a R,
     alloc: Global,

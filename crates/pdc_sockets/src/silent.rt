@@ -1,5 +1,5 @@
 //! Sources that said nothing yet.
-ghost use Rattle.std.specs.Prelude.{◌≡◌, ◌+◌, ◌++◌, ◌∷◌, [], OnOk, vec_len};
+ghost use Rattle.std.specs.Prelude.{◌≡◌, ◌+◌, ◌++◌, ◌∷◌, [], OnOk, length};
 ghost use Rattle.pdc_sockets.specs.Silent.{AreSilent};
 
 use pdc_memory::make_room;
@@ -25,7 +25,7 @@ impl<S: Source + Drop> Silent<S> {
 
     /// How many sources there are.
     pub fn len(&self) -> usize
-        ensures { result ≡ vec_len self.now.sources }
+        ensures { result ≡ length self.now.sources.items }
     {
         self.sources.len()
     }

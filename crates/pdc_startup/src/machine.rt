@@ -250,7 +250,14 @@ impl Machine for ThisMachine {
             journal: &observed.journal,
             each: observed.tallies.as_slice(),
         };
-        match open_links(&SystemSockets, rt, rt.alloc(), network, concentrator, tallies) {
+        match open_links(
+            &SystemSockets,
+            rt,
+            rt.alloc(),
+            network,
+            concentrator,
+            tallies,
+        ) {
             Ok(links) => Ok(links),
             Err(fault) => Err(unopened(fault)),
         }
@@ -273,7 +280,12 @@ impl Machine for ThisMachine {
         rt: &R,
         described: &Described,
     ) -> Result<TcpListener, ServiceFault> {
-        match open_listener(&SystemSockets, rt, &described.network, &described.concentrator) {
+        match open_listener(
+            &SystemSockets,
+            rt,
+            &described.network,
+            &described.concentrator,
+        ) {
             Ok(listener) => Ok(listener),
             Err(fault) => Err(unopened(fault)),
         }

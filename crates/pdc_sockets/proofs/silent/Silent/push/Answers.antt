@@ -1,4 +1,4 @@
-use Rattle.std.proofs.Common.{rules, ◌≡◌, ◌∙◌, ◌++◌, ◌∷◌, [], ap}
+use Rattle.std.proofs.Common.{◌∙◌, ◌++◌, ◌∷◌, [], ap}
 use Rattle.std.proofs.Math.Logic.{∥∥₁_map}
 use Rattle.pdc_sockets.proofs.OneMore.{all_push}
 use Rattle.pdc_sockets.proofs.silent.Silent.push.Goals as goal
