@@ -48,13 +48,7 @@ struct Concentrator<C: Core + Drop> {
 
 impl<C: Core + Drop> Concentrator<C> {
     /// Up to this instant all is published, and the first tick is at it.
-    fn new(
-        alloc: Global,
-        core: C,
-        streams: usize,
-        output: Output,
-        floor: u64,
-    ) -> Concentrator<C>
+    fn new(alloc: Global, core: C, streams: usize, output: Output, floor: u64) -> Concentrator<C>
         requires same_streams { streams ≡ C.Settings.streams (C.settings_of core) }
         requires some_streams { 0 < streams }
     {

@@ -15,11 +15,11 @@ loop-port-preserved g c =
     let input = c.in-Some-get.input.now in
     let lookup = c.in-Some-get.ensures.lookup in
     let read : slice_get found (length old) ≡ Some input =
-      ap (slice_get found) (sym c.len-number.ensures) ∙ slice_get_read found (length found) number input refl lookup.3.0 lookup.1 in
+    ap (slice_get found) (sym c.len-number.ensures) ∙ slice_get_read found (length found) number input refl lookup.3.0 lookup.1 in
     let of_table : slice_get network.inputs.items (length old) ≡ Some input =
-      subst (λ items. slice_get items (length old) ≡ Some input) c.deref.ensures.value read in
+    subst (λ items. slice_get items (length old) ≡ Some input) c.deref.ensures.value read in
     let at_port : slice_get ports (length old) ≡ Some c.in-Some.stream.port =
-      ap (slice_get ports) c.loop-port.invariant.0 ∙ slice_get-get_or ports c.loop-port.port-index 0 (search rules) ∙ ap Some (sym c.in-Some.ensures) in
+    ap (slice_get ports) c.loop-port.invariant.0 ∙ slice_get-get_or ports c.loop-port.port-index 0 (search rules) ∙ ap Some (sym c.in-Some.ensures) in
     let named : IsLinkOf g.S.Sockets.receives network c.in-Some.stream.port input c.in_ok-link.link = search rules in (
       omega (arith, ap length c.in-Ok.ensures ∙ length-append old (c.in_ok-link.link ∷ []), c.loop-port.invariant.0),
       subst (AreLinksOf g.S.Sockets.receives network network.inputs.items ports) (sym c.in-Ok.ensures)
