@@ -12,7 +12,7 @@ pub trait CheckWord {
 /// Sixteen bytes a step from tables: slicing by 16.
 pub struct ByTables;
 
-/// Thirty-two bytes a step without tables, as ours.
+/// Thirty-two bytes a step without tables, and from 512 bytes on lanes of words that are joined by exclusive or alone, as ours.
 pub struct ByShifts;
 
 const fn next_check(check: u16, byte: u8) -> u16 {
@@ -246,9 +246,89 @@ fn of_few(bytes: &[u8]) -> u16 {
     check_of_state(after_rest(START, bytes))
 }
 
+/// From so many bytes on lanes are worth their begin.
+const LONG: usize = 512;
+
+/// As many words as the longest step back of a lane.
+const LANES: usize = 16;
+
+/// Words of a message, one in each lane.
+type Lanes = [u64; LANES];
+
+/// The generator's 64th power is x^1024 + x^768 + x^320 + 1: each word goes on into those four, eleven and sixteen behind it.
+#[inline(always)]
+fn after_lanes(lanes: &mut Lanes, words: &Lanes) {
+    for lane in 0..LANES {
+        lanes[lane] ^= words[lane] ^ lanes[(lane + 12) % LANES] ^ lanes[(lane + 5) % LANES];
+    }
+}
+
+#[inline(always)]
+fn words_of(step: &[u8; 8 * LANES]) -> Lanes {
+    let (words, _) = step.as_chunks::<8>();
+    std::array::from_fn(|lane| u64::from_ne_bytes(words[lane]))
+}
+
+/// The check word behind these lanes: of steps of words, and the bytes behind them.
+#[inline(always)]
+fn of_lanes(mut lanes: Lanes, steps: &[[u8; 8 * LANES]], rest: &[u8]) -> u16 {
+    let Some((last, steps)) = steps.split_last() else {
+        return 0;
+    };
+    for step in steps {
+        after_lanes(&mut lanes, &words_of(step));
+    }
+    let last = words_of(last);
+    let mut left = [0; 8 * LANES + 8];
+    for lane in 0..LANES {
+        let mut word = last[lane] ^ lanes[lane];
+        if lane < 4 {
+            word ^= lanes[12 + lane];
+        }
+        if lane < 11 {
+            word ^= lanes[5 + lane];
+        }
+        left[8 * lane..8 * lane + 8].copy_from_slice(&word.to_ne_bytes());
+    }
+    left[8 * LANES..8 * LANES + rest.len()].copy_from_slice(rest);
+    of_state_and(0, &left[..8 * LANES + rest.len()])
+}
+
+/// The check word of many bytes behind a state of two words.
+#[inline(never)]
+fn of_long(state: u128, bytes: &[u8]) -> u16 {
+    let (words, rest) = bytes.as_chunks::<8>();
+    let (first, steps) = words.split_at(words.len() % LANES);
+    let mut front = [0; LANES + 2];
+    let begin = LANES - first.len();
+    front[begin] = ((state >> 64) as u64).to_be();
+    front[begin + 1] = (state as u64).to_be();
+    for (word, bytes) in front[begin + 2..].iter_mut().zip(first) {
+        *word = u64::from_ne_bytes(*bytes);
+    }
+    let mut lanes = [0; LANES];
+    // With the state these may be a word more than a step has: then the first two are a step of their own.
+    let (early, late) = front.split_at(2);
+    if first.len() + 2 > LANES {
+        lanes[LANES - 2..].copy_from_slice(early);
+    }
+    after_lanes(&mut lanes, late.try_into().expect("as many as lanes"));
+    let (steps, _) = steps.as_flattened().as_chunks::<{ 8 * LANES }>();
+    of_lanes(lanes, steps, rest)
+}
+
 /// The check word of bytes behind a state.
 #[inline(always)]
 fn of_behind(state: u128, bytes: &[u8]) -> u16 {
+    if bytes.len() >= LONG {
+        return of_long(state, bytes);
+    }
+    of_state_and(state, bytes)
+}
+
+/// The same by steps of thirty-two bytes.
+#[inline(always)]
+fn of_state_and(state: u128, bytes: &[u8]) -> u16 {
     let (steps, rest) = bytes.as_chunks::<32>();
     let state = match steps.split_first() {
         Some((first, steps)) => {
@@ -272,6 +352,9 @@ impl CheckWord for ByShifts {
 
     #[inline]
     fn of(bytes: &[u8]) -> u16 {
+        if bytes.len() >= LONG {
+            return of_long(START, bytes);
+        }
         if bytes.len() >= 32 {
             return of_many(bytes);
         }

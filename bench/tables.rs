@@ -272,14 +272,11 @@ impl<'a, T: Table> Aligner<'a, T> {
     }
 }
 
-/// A number that depends on the row: its instant, its quality and its last block.
+/// A number that depends on the row: its instant, its quality and the last byte of its last block.
 fn mix(row: &DueRow) -> u64 {
     let words = row.blocks.as_slice().last().map_or(&[][..], Block::words);
-    words
-        .iter()
-        .fold(row.instant ^ u64::from(row.quality) << 60, |mixed, word| {
-            mixed.wrapping_add(u64::from(*word))
-        })
+    let byte = words.last().map_or(0, |word| u64::from(word & 0xFF));
+    (row.instant ^ u64::from(row.quality) << 60).wrapping_add(byte)
 }
 
 /// For each instant 16 puts, of which the last is this much behind, and 4 ticks.

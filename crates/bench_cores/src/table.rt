@@ -103,14 +103,12 @@ impl<'a, T: Table> Aligner<'a, T> {
     }
 }
 
-/// A number that depends on the row: its instant, its quality and its last block. What is measured is the table, and not a sum of all
-/// words.
+/// A number that depends on the row: its instant, its quality and the last byte of its last block. What is measured is the table, and not a
+/// sum of all words.
 fn mix(row: &DueRow) -> u64 {
     let mut mixed = row.instant ^ u64::from(row.quality) << 60;
-    if let Some(block) = row.blocks.as_slice().last() {
-        for word in block.words() {
-            mixed = mixed.wrapping_add(u64::from(*word));
-        }
+    if let Some(byte) = row.blocks.bytes().last() {
+        mixed = mixed.wrapping_add(u64::from(*byte));
     }
     mixed
 }

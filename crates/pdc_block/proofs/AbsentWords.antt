@@ -1,5 +1,5 @@
 -- The words of an absent block.
-use Rattle.std.proofs.Common.{◌≡◌, ◌<◌, ◌≤◌, ◌^◌, ℕ, zero, suc, ◌+◌, ◌*◌, Bool, true, false, ◌&&◌, List, [], ◌∷◌, ◌++◌, eqb, get_or, length, replicate, set, take, refl, sym, ap, ◌∙◌, subst, arith}
+use Rattle.std.proofs.Common.{◌≡◌, ◌<◌, ◌≤◌, ◌^◌, ℕ, zero, suc, ◌+◌, ◌*◌, Bool, true, false, ◌&&◌, List, [], ◌∷◌, ◌++◌, eqb, get_or, length, replicate, take, refl, sym, ap, ◌∙◌, subst, arith}
 use Rattle.pdc_block.specs.Block.{AreWords}
 use Rattle.std.proofs.lemmas.Bool.{eq-eqb, eqb-true, false≢true}
 use Rattle.std.proofs.lemmas.List.{replicate-append-replicate, take_more}
@@ -10,20 +10,6 @@ rest_of p a d = replicate (2 * p) 0x8000 ++ (0x8000 ∷ 0x8000 ∷ replicate a 0
 
 pub parts : (p a d : ℕ) → rest_of p a d ≡ replicate (2 * p + suc (suc a)) 0x8000 ++ replicate d 0
 parts p a d = ap (λ (xs : List ℕ). xs ++ replicate d 0) (replicate-append-replicate (2 * p) (suc (suc a)) 0x8000)
-
-one_set : (xs : List ℕ) (w : ℕ) → length xs ≡ 1 → set xs 0 w ≡ w ∷ []
-one_set [] w e = absurd (omega (arith, e))
-one_set (x ∷ []) w e = refl
-one_set (x ∷ y ∷ xs) w e = absurd (omega (arith, e))
-
--- STAT, the values and the digital words, each written
-pub all_set : (stat values digitals : List ℕ) (p a d : ℕ) → length stat ≡ 1 → values ≡ replicate (2 * p + suc (suc a)) 0x8000 → digitals ≡ replicate d 0
-    → set stat 0 0xA1F0 ++ (values ++ digitals) ≡ 0xA1F0 ∷ rest_of p a d
-all_set stat values digitals p a d e h k =
-    ap (λ (xs : List ℕ). xs ++ (values ++ digitals)) (one_set stat 0xA1F0 e)
-    ∙ ap (λ (xs : List ℕ). 0xA1F0 ∷ (xs ++ digitals)) h
-    ∙ ap (λ (xs : List ℕ). 0xA1F0 ∷ (replicate (2 * p + suc (suc a)) 0x8000 ++ xs)) k
-    ∙ ap (λ (xs : List ℕ). 0xA1F0 ∷ xs) (sym (parts p a d))
 
 -- ---- they are words
 

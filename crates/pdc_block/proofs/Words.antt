@@ -1,5 +1,5 @@
 -- Words and their bytes: as many words as bytes have room for are told by their bytes.
-use Rattle.std.proofs.Common.{◌≡◌, ℕ, zero, suc, ◌+◌, ◌*◌, ◌^◌, ◌<◌, ◌≤◌, List, [], ◌∷◌, ◌++◌, get_or, length, set, take, drop, refl, sym, ap, ◌∙◌, arith, length-append}
+use Rattle.std.proofs.Common.{◌≡◌, ℕ, zero, suc, ◌+◌, ◌*◌, ◌^◌, ◌<◌, ◌≤◌, List, [], ◌∷◌, ◌++◌, get_or, length, take, drop, refl, sym, ap, ◌∙◌, arith, length-append}
 use Rattle.std.specs.Prelude.{sum_by}
 use Rattle.std.specs.Int.{w16, to_be_bytes}
 use Rattle.std.proofs.lemmas.List.{append-nil, append_assoc, drop_more, take-append-drop}
@@ -138,12 +138,3 @@ module _ (words : WordsAreTheirBytes) where
       let first : x ≡ y = same_words x y len hx.1 hy.1 parts.0 in
       let others : xs ≡ ys = same_blocks keep shapes xs ys hx.2 hy.2 parts.1 in
       λ i. first i ∷ others i
-
--- one word is written byte by byte
-pub one_written : (bs ws rs : List ℕ) → length bs ≡ 2 * length ws → length ws ≡ 1 → rs ≡ to_be_bytes w16 (get_or ws 0 0) → set (set bs 0 (get_or rs 0 0)) 1 (get_or rs 1 0) ≡ bytes_of_words ws
-one_written bs [] rs h k f = absurd (omega arith)
-one_written [] (v ∷ ws) rs h k f = absurd (omega arith)
-one_written (x ∷ []) (v ∷ ws) rs h k f = absurd (omega arith)
-one_written (x ∷ y ∷ z ∷ bs) (v ∷ []) rs h k f = absurd (omega arith)
-one_written (x ∷ y ∷ bs) (v ∷ u ∷ ws) rs h k f = absurd (omega arith)
-one_written (x ∷ y ∷ []) (v ∷ []) rs h k f = rw f refl

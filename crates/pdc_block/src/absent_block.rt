@@ -90,46 +90,6 @@ fn are_eight(words: &[u16], word: u16) -> bool
         & (words[7] == word)
 }
 
-/// Makes this the block that `absent` gives, in place.
-#[inline(never)]
-pub fn set_absent(block: &mut Block, shape: Shape)
-    ensures shape { block.new.shape ≡ shape }
-    ensures words { words_of block.new ≡ absent_of shape }
-{
-    block.shape = shape;
-    set_absent_words(&mut block.words, shape);
-}
-
-/// Makes these the words of `absent` of the shape. Where there were as many before, they are written over.
-fn set_absent_words(kept: &mut ArrayVec<u16, MAX_WORDS>, shape: Shape)
-    ensures { kept.new.items ≡ absent_of shape }
-{
-    if kept.len() == shape.word_count() {
-        write_absent(kept.as_mut_slice(), shape);
-    } else {
-        *kept = absent(shape).words;
-    }
-}
-
-/// Writes the words of `absent` of the shape over these.
-fn write_absent(words: &mut [u16], shape: Shape)
-    requires { length words.old ≡ word_count_of shape }
-    ensures { words.new ≡ absent_of shape }
-{
-    let (stat, rest) = words.split_at_mut(1);
-    let (values, digitals) = rest.split_at_mut(rest.len() - usize::from(shape.digitals));
-    stat[0] = ABSENT_STAT;
-    write_all(values, NO_VALUE);
-    write_all(digitals, 0);
-}
-
-/// Writes the word over each of these.
-fn write_all(words: &mut [u16], word: u16)
-    ensures { words.new ≡ replicate (length words.old) word }
-{
-    words.fill(word);
-}
-
 /// Appends the word so many times.
 fn push_times(words: &mut ArrayVec<u16, 107>, word: u16, times: u8)
     requires { array_vec_len words.old + times ≤ 107 }

@@ -3,7 +3,6 @@ ghost use Rattle.std.specs.Prelude.{◌≡◌, ◌<◌, ◌≤◌, ◌^◌, ℕ,
 ghost use Rattle.arrayvec.specs.ArrayVec.{array_vec_len};
 ghost use Rattle.pdc_cfg.specs.Shape.{word_count_of};
 
-use crate::in_place::set_words;
 use arrayvec::ArrayVec;
 use pdc_cfg::{MAX_WORDS, Shape};
 use std::alloc::AllocError;
@@ -68,17 +67,6 @@ impl Block {
             shape,
             words: taken,
         }
-    }
-
-    /// Makes this the block of this shape and these words, in place.
-    #[inline(always)]
-    pub fn set(&mut self, shape: Shape, words: &[u16])
-        requires { length words.now ≡ word_count_of shape }
-        ensures shape { self.new.shape ≡ shape }
-        ensures words { words_of self.new ≡ words.now }
-    {
-        self.shape = shape;
-        set_words(&mut self.words, words);
     }
 
     /// The words in wire order.

@@ -18,7 +18,7 @@ mod reading;
 mod stat;
 mod writing;
 
-pub use absent_block::{ABSENT_STAT, NO_VALUE, absent, are_absent, is_absent, set_absent};
+pub use absent_block::{ABSENT_STAT, NO_VALUE, absent, are_absent, is_absent};
 pub use block::Block;
 pub use body::Body;
 pub use fault::BodyFault;
@@ -32,4 +32,4 @@ pub use pdc_cfg::{
 };
 pub use reading::{cut, read_body};
 pub use stat::{ErrorClass, Stat};
-pub use writing::{append_blocks, append_words, join, joined_len, write_blocks};
+pub use writing::{append_blocks, append_words, join, joined_len};

@@ -36,11 +36,11 @@ pub fn blocks_for(alloc: Global, config: &ConfigView) -> Result<Vec<Block>, Allo
     Ok(blocks)
 }
 
-/// Makes this the block that the bytes are, in place.
+/// Makes this the block that the bytes are.
 fn read_block(block: &mut Block, words: &mut Vec<u16>, body: &Body) -> Result<(), AllocError> {
     words.resize(body.shape.word_count(), 0)?;
     body.write_words(words.as_mut_slice());
-    block.set(body.shape, words.as_slice());
+    *block = Block::from_words(body.shape, words.as_slice());
     Ok(())
 }
 

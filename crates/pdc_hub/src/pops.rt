@@ -4,7 +4,7 @@ ghost use Rattle.pdc_log.specs.Log.{turned_in};
 
 use crate::ledgers::{Ledgers, TopIn, TurnsIn};
 use pdc_log::Front;
-use pdc_row::DueRow;
+use pdc_row::{DueRow, RowBlocks};
 use std::marker::PhantomData;
 use std::sync::ledger::Share;
 
@@ -62,6 +62,6 @@ pub(crate) fn spare_row() -> DueRow {
         start: 0,
         change: 0,
         quality: 15,
-        blocks: Default::default(),
+        blocks: RowBlocks::new(),
     }
 }

@@ -4,7 +4,7 @@ use Rattle.std.specs.Cmp.Lexicographic.{pointwise}
 use Rattle.pdc_keys.specs.declared.key.Choice.{Choice}
 use Rattle.pdc_keys.specs.declared.key.Choice.TheVariants.{First, Second}
 use Rattle.pdc_keys.specs.declared.key.Usual.{Usual}
-use Rattle.pdc_keys.specs.declared.key.Usual.TheVariants.{AtMerger, AtNode, Is, Must, Said, Text, Unless}
+use Rattle.pdc_keys.specs.declared.key.Usual.TheVariants.{AtMerger, AtNode, Is, Must, Octets, Said, Text, Unless}
 use Rattle.pdc_keys.specs.declared.key.Values.{Values}
 use Rattle.pdc_keys.specs.declared.key.Values.TheVariants as Stands
 use Rattle.pdc_keys.specs.declared.owner.KeyTable.{KeyTable}
@@ -54,7 +54,34 @@ usual_in (AtNode other) = 0
 usual_in AtMerger = 0
 usual_in (Is number) = number
 usual_in (Text text) = 0
+usual_in (Octets a b c d) = 0
 usual_in (Said words) = 0
+
+-- 0.0.0.0
+abbrev pub none_said : List ℕ
+none_said = 0 ∷ 0 ∷ 0 ∷ 0 ∷ []
+
+-- the text that holds where a key is left out, an empty one where none is said
+abbrev pub text_in : Usual → List ℕ
+text_in Must = []
+text_in (Unless other) = []
+text_in (AtNode other) = []
+text_in AtMerger = []
+text_in (Is number) = []
+text_in (Text text) = text.now
+text_in (Octets a b c d) = []
+text_in (Said words) = []
+
+-- the four numbers of the address that holds where a key is left out, 0.0.0.0 where none is said
+abbrev pub octets_in : Usual → List ℕ
+octets_in Must = none_said
+octets_in (Unless other) = none_said
+octets_in (AtNode other) = none_said
+octets_in AtMerger = none_said
+octets_in (Is number) = none_said
+octets_in (Text text) = none_said
+octets_in (Octets a b c d) = a ∷ b ∷ c ∷ d ∷ []
+octets_in (Said words) = none_said
 
 -- the two words of which one may stand there
 abbrev pub words_in : Values → List (List ℕ)
@@ -78,26 +105,42 @@ choice_of [] text = None
 choice_of (one ∷ []) text = None
 choice_of (one ∷ (other ∷ more)) text = if pointwise nat_eq text one then Some First else if pointwise nat_eq text other then Some Second else None
 
--- the name of a key, whose it is, its least and its greatest number, the usual one, and its two words
+-- the name of a key, whose it is, its least and its greatest number, its two words, and what holds where it is left out: a
+-- number, a text or the four numbers of an address
 pub record Line : Type 0 where
   pub name : List ℕ
   pub owner : Owner
   pub least : ℕ
   pub most : ℕ
-  pub usual : ℕ
   pub words : List (List ℕ)
-
-abbrev pub number : List ℕ → Owner → (least most : ℕ) → Line
-number name owner least most = record { name = name; owner = owner; least = least; most = most; usual = 0; words = [] }
+  pub usual : ℕ
+  pub text : List ℕ
+  pub octets : List ℕ
 
 abbrev pub number_or : List ℕ → Owner → (usual least most : ℕ) → Line
-number_or name owner usual least most = record { name = name; owner = owner; least = least; most = most; usual = usual; words = [] }
+number_or name owner usual least most = record {
+  name = name;
+  owner = owner;
+  least = least;
+  most = most;
+  words = [];
+  usual = usual;
+  text = [];
+  octets = none_said;
+}
+
+abbrev pub number : List ℕ → Owner → (least most : ℕ) → Line
+number name owner least most = number_or name owner 0 least most
 
 abbrev pub other : List ℕ → Owner → Line
 other name owner = number name owner 0 0
 
-abbrev pub either : List ℕ → Owner → (one other : List ℕ) → Line
-either name owner one other = record { name = name; owner = owner; least = 0; most = 0; usual = 0; words = one ∷ other ∷ [] }
+-- one of two words, and the one that holds where the key is left out
+abbrev pub either : List ℕ → Owner → (one other usual : List ℕ) → Line
+either name owner one other usual = record (number name owner 0 0) { words = one ∷ other ∷ []; text = usual }
+
+abbrev pub address_or : List ℕ → Owner → (octets : List ℕ) → Line
+address_or name owner octets = record (number name owner 0 0) { octets = octets }
 
 abbrev pub line_of : Wanted → Line
 line_of Of.Id = number (codes "id") Settings 1 65534
@@ -105,16 +148,16 @@ line_of Of.Rate = number (codes "rate") Settings 1 240
 line_of Of.Nominal = number (codes "nominal") Settings 50 60
 line_of Of.TimeBase = number (codes "time_base") Settings 1 16777215
 line_of Of.Wait = number (codes "wait") Settings 1 1000
-line_of Of.WaitKind = either (codes "wait_kind") Settings (codes "relative") (codes "absolute")
+line_of Of.WaitKind = either (codes "wait_kind") Settings (codes "relative") (codes "absolute") (codes "relative")
 line_of Of.Window = number (codes "window") Settings 8 256
 line_of Of.Ahead = number (codes "ahead") Settings 0 1000
 line_of Of.Lead = number_or (codes "lead") Settings 0 0 1000
 line_of Of.LayoutEvery = number (codes "layout_every") Settings 1 65535
 line_of Of.OutPort = number (codes "out_port") Settings 1 65535
 line_of Of.SessionPort = number (codes "session_port") Settings 1 65535
-line_of Of.Tick = either (codes "tick") Settings (codes "period") (codes "whole")
+line_of Of.Tick = either (codes "tick") Settings (codes "period") (codes "whole") (codes "period")
 line_of Of.TickMs = number (codes "tick_ms") Settings 0 999
-line_of Of.Address = other (codes "address") Settings
+line_of Of.Address = address_or (codes "address") Settings (127 ∷ 0 ∷ 0 ∷ 1 ∷ [])
 line_of Of.Outputs = number (codes "outputs") Settings 0 8
 line_of Of.Ttl = number_or (codes "ttl") Settings 1 1 255
 line_of Of.ReceiveBuffer = number_or (codes "receive_buffer") Settings 4194304 1 1073741824
@@ -149,6 +192,12 @@ most_of wanted = (line_of wanted).most
 
 abbrev pub usual_of : Wanted → ℕ
 usual_of wanted = (line_of wanted).usual
+
+abbrev pub usual_text_of : Wanted → List ℕ
+usual_text_of wanted = (line_of wanted).text
+
+abbrev pub usual_octets_of : Wanted → List ℕ
+usual_octets_of wanted = (line_of wanted).octets
 
 abbrev pub words_of : Wanted → List (List ℕ)
 words_of wanted = (line_of wanted).words

@@ -1,10 +1,13 @@
 //! What the table says of a key.
 ghost use Rattle.std.specs.Prelude.{◌≡◌};
-ghost use Rattle.pdc_keys.specs.Table.{choice_of, least_in, most_in, usual_in, words_in};
+ghost use Rattle.std.specs.Net.Addr.{IsV4And, ipv4_octets};
+ghost use Rattle.pdc_keys.specs.Table.{choice_of, least_in, most_in, octets_in, text_in, usual_in};
+ghost use Rattle.pdc_keys.specs.Table.{words_in};
 
 use crate::owner::Owner;
 use std::fmt;
 use std::fmt::{Display, Formatter};
+use std::net::IpAddr;
 
 /// What must stand at a key.
 #[derive(Clone, Copy, Debug)]
@@ -59,6 +62,8 @@ pub enum Usual {
     Is(u64),
     /// this text,
     Text(&'static str),
+    /// the address of these four,
+    Octets(u8, u8, u8, u8),
     /// or as these words say.
     Said(&'static str),
 }
@@ -182,7 +187,40 @@ impl Usual {
             | Usual::AtNode(_)
             | Usual::AtMerger
             | Usual::Text(_)
+            | Usual::Octets(..)
             | Usual::Said(_) => 0,
+        }
+    }
+
+    /// The text that it is; an empty one where it is none.
+    pub(crate) fn text(self) -> &'static str
+        ensures { result.now ≡ text_in self }
+    {
+        match self {
+            Usual::Text(text) => text,
+            Usual::Must
+            | Usual::Unless(_)
+            | Usual::AtNode(_)
+            | Usual::AtMerger
+            | Usual::Is(_)
+            | Usual::Octets(..)
+            | Usual::Said(_) => "",
+        }
+    }
+
+    /// The address that it is; 0.0.0.0 where it is none.
+    pub(crate) fn address(self) -> IpAddr
+        ensures { IsV4And result (λ v4. ipv4_octets v4 ≡ octets_in self) }
+    {
+        match self {
+            Usual::Octets(a, b, c, d) => IpAddr::from([a, b, c, d]),
+            Usual::Must
+            | Usual::Unless(_)
+            | Usual::AtNode(_)
+            | Usual::AtMerger
+            | Usual::Is(_)
+            | Usual::Text(_)
+            | Usual::Said(_) => IpAddr::from([0u8, 0, 0, 0]),
         }
     }
 
@@ -190,14 +228,15 @@ impl Usual {
     fn is_must(self) -> bool {
         match self {
             Usual::Must | Usual::Unless(_) | Usual::AtMerger => true,
-            Usual::AtNode(_) | Usual::Is(_) | Usual::Text(_) | Usual::Said(_) => false,
+            Usual::AtNode(_) | Usual::Is(_) | Usual::Text(_) | Usual::Octets(..) | Usual::Said(_) =>
+                false,
         }
     }
 
     /// Whether the key may be left out, everywhere.
     fn may_lack(self) -> bool {
         match self {
-            Usual::Is(_) | Usual::Text(_) | Usual::Said(_) => true,
+            Usual::Is(_) | Usual::Text(_) | Usual::Octets(..) | Usual::Said(_) => true,
             Usual::Must | Usual::Unless(_) | Usual::AtNode(_) | Usual::AtMerger => false,
         }
     }
@@ -236,6 +275,7 @@ impl Display for Usual {
             Usual::AtMerger => f.write_str("must be there at the merger"),
             Usual::Is(number) => write!(f, "{number}"),
             Usual::Text(text) => write!(f, "\"{text}\""),
+            Usual::Octets(a, b, c, d) => write!(f, "\"{a}.{b}.{c}.{d}\""),
             Usual::Said(words) => f.write_str(words),
         }
     }

@@ -2,12 +2,13 @@
 ghost use Rattle.std.specs.Prelude.{◌≡◌};
 ghost use Rattle.pdc_keys.specs.Known.{merged_node_keys, merged_pmu_keys, pmu_keys, top_keys};
 ghost use Rattle.pdc_keys.specs.Table.{least_in, least_of, most_in, most_of, name_of, owner_of};
-ghost use Rattle.pdc_keys.specs.Table.{names_in, usual_in, usual_of, words_in, words_of};
+ghost use Rattle.pdc_keys.specs.Table.{names_in, octets_in, text_in, usual_in, usual_octets_of};
+ghost use Rattle.pdc_keys.specs.Table.{usual_of, usual_text_of, words_in, words_of};
 ghost use Rattle.pdc_keys.specs.declared.owner.KeyTable.TheVariants.{MergedNode, MergedPmu};
 ghost use Rattle.pdc_keys.specs.declared.owner.KeyTable.TheVariants.{NodePmu, Top};
 
 use crate::key::Key;
-use crate::key::Usual::{AtMerger, AtNode, Is, Must, Said, Text, Unless};
+use crate::key::Usual::{AtMerger, AtNode, Is, Must, Octets, Said, Text, Unless};
 use crate::key::Values::{
     Address, AddressBeside, Either, FromRate, Nothing, Number, PlaceBeside, PlaceInstead, Places,
     Tables, TwoTables, WithinFrame, Words,
@@ -35,7 +36,7 @@ macro_rules! keys {
             SessionPort: "session_port", Settings, Number(1, 65535), Must, "the TCP port of its sessions";
             Tick: "tick", Settings, Words("period", "whole"), Text("period"), "ticks at deadlines alone, or also when an instant is whole";
             TickMs: "tick_ms", Settings, WithinFrame(0, 999), Said("counted from the start"), "how many milliseconds behind each instant of the clock the deadlines lie";
-            Address: "address", Settings, Address("10.0.1.5"), Text("127.0.0.1"), "where it takes data and serves sessions; 0.0.0.0 is each address of the machine";
+            Address: "address", Settings, Address("10.0.1.5"), Octets(127, 0, 0, 1), "where it takes data and serves sessions; 0.0.0.0 is each address of the machine";
             Outputs: "outputs", Settings, Places(8), Said("none"), "further destinations of each frame";
             Ttl: "ttl", Settings, Number(1, 255), Is(1), "how many hops a frame to a group of IPv4 takes at most";
             ReceiveBuffer: "receive_buffer", Settings, Number(1, 1073741824), Is(4194304), "bytes of the buffer of each port that data comes to";
@@ -82,6 +83,8 @@ pub(crate) fn line_of(wanted: Wanted) -> Key
     ensures least { least_in result.values ≡ least_of wanted }
     ensures most { most_in result.values ≡ most_of wanted }
     ensures usual { usual_in result.usual ≡ usual_of wanted }
+    ensures text { text_in result.usual ≡ usual_text_of wanted }
+    ensures octets { octets_in result.usual ≡ usual_octets_of wanted }
     ensures words { words_in result.values ≡ words_of wanted }
 {
     keys!(line_of wanted)

@@ -1,7 +1,9 @@
 //! What a settings text lacks.
 ghost use Rattle.std.specs.Prelude.{◌≡◌};
+ghost use Rattle.std.specs.Net.Addr.{IsV4And, ipv4_octets};
 ghost use Rattle.pdc_keys.specs.Table.{least_in, least_of, most_in, most_of, name_of, owner_of};
-ghost use Rattle.pdc_keys.specs.Table.{choice_of, usual_in, usual_of, words_in, words_of};
+ghost use Rattle.pdc_keys.specs.Table.{choice_of, octets_in, text_in, usual_in, usual_octets_of};
+ghost use Rattle.pdc_keys.specs.Table.{usual_of, usual_text_of, words_in, words_of};
 
 use crate::key::{Choice, Key, Range};
 use crate::owner::Owner;
@@ -9,6 +11,7 @@ use crate::table::line_of;
 use std::error::Error;
 use std::fmt;
 use std::fmt::{Display, Formatter};
+use std::net::IpAddr;
 
 /// A key that is missing, or whose value is of another type or out of its range. Each prints the key and what was wanted.
 #[derive(Clone, Copy, Debug, PartialEq, Eq)]
@@ -57,6 +60,8 @@ impl Wanted {
         ensures least { least_in result.values ≡ least_of self }
         ensures most { most_in result.values ≡ most_of self }
         ensures usual { usual_in result.usual ≡ usual_of self }
+        ensures text { text_in result.usual ≡ usual_text_of self }
+        ensures octets { octets_in result.usual ≡ usual_octets_of self }
         ensures words { words_in result.values ≡ words_of self }
     {
         line_of(self)
@@ -95,6 +100,20 @@ impl Wanted {
         ensures { result ≡ usual_of self }
     {
         self.line().usual.number()
+    }
+
+    /// The text that holds where the key is left out; an empty one where none does.
+    pub fn usual_text(self) -> &'static str
+        ensures { result.now ≡ usual_text_of self }
+    {
+        self.line().usual.text()
+    }
+
+    /// The address that holds where the key is left out; 0.0.0.0 where none does.
+    pub fn usual_address(self) -> IpAddr
+        ensures { IsV4And result (λ v4. ipv4_octets v4 ≡ usual_octets_of self) }
+    {
+        self.line().usual.address()
     }
 
     /// Which of its two words a text is; none where it has no words.

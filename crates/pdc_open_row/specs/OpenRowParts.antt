@@ -1,14 +1,9 @@
 -- What the lists of an open row show together: which lanes hold a cell, and the cells of each lane.
-use Rattle.std.specs.Prelude.{ℕ, zero, suc, ◌==◌, ◌++◌, false, if◌then◌else◌, List, [], ◌∷◌, drop, map, take, Option, Some, None}
-use Rattle.pdc_row.specs.pdc_block.declared.block.Block.{Block}
-use Rattle.pdc_row.specs.pdc_cfg.declared.shape.Shape.{Shape}
-use Rattle.pdc_row.specs.CellView.{BlockView, CellView, block_view}
-use Rattle.pdc_row.specs.Quality.{worst_of}
-use Rattle.pdc_open_row.specs.Row.{blocks_of, qualities_of}
+use Rattle.std.specs.Prelude.{ℕ, zero, suc, ◌==◌, false, if◌then◌else◌, List, [], ◌∷◌, Option, Some, None}
+use Rattle.pdc_row.specs.CellView.{CellView}
 use Rattle.pdc_open_row.specs.Views.{ColumnView, kept}
 use Rattle.pdc_open_row.specs.declared.column.Chosen.{Chosen}
 use Rattle.pdc_open_row.specs.declared.column.Held.{Held}
-use Rattle.pdc_open_row.specs.declared.row_blocks.Written.{Written}
 
 -- no lane holds a cell
 abbrev pub nothing : Held
@@ -41,13 +36,3 @@ columns_of (h ∷ held) (f ∷ first) (s ∷ second) = column_of h f s ∷ colum
 abbrev pub worst_kept : ℕ → Option ℕ
 worst_kept zero = None
 worst_kept (suc n) = Some n
-
--- the blocks that are written so far, and those of the columns that are left
-abbrev pub blocks_after : Written → List Block → List (Option Shape) → List ColumnView → List BlockView
-blocks_after written blocks shapes columns =
-    map block_view (take written.count blocks) ++ blocks_of (drop written.place shapes) (drop written.place columns)
-
--- the worst quality of those so far, and of the columns that are left
-abbrev pub worst_after : Written → List (Option Shape) → List ColumnView → ℕ
-worst_after written shapes columns =
-    worst_of (worst_kept written.above) (qualities_of (drop written.place shapes) (drop written.place columns))

@@ -1,23 +1,24 @@
 //! The row of an instant that is open.
-ghost use Rattle.std.specs.Prelude.{◌≡◌, ◌+◌, ◌<◌, ◌≤◌, length, map, Some, if◌then◌else◌};
-ghost use Rattle.pdc_row.specs.CellView.{block_view};
+ghost use Rattle.std.specs.Prelude.{◌≡◌, ◌+◌, ◌<◌, ◌≤◌, ◌++◌, drop, length, Some};
+ghost use Rattle.std.specs.Prelude.{if◌then◌else◌};
+ghost use Rattle.pdc_row.specs.Quality.{worst_of};
 ghost use Rattle.pdc_row.specs.RowView.{row_view};
 ghost use Rattle.pdc_open_row.specs.Views.{at_age, blank_row, without_instant};
-ghost use Rattle.pdc_open_row.specs.Row.{row_of};
+ghost use Rattle.pdc_open_row.specs.Row.{blocks_of, qualities_of, row_of};
 ghost use Rattle.pdc_open_row.specs.Due.{all_taken, is_due};
 ghost use Rattle.pdc_open_row.specs.Taking.{HaveColumns, answer_at, conflicts, is_taken};
 ghost use Rattle.pdc_open_row.specs.Taking.{with_frame, without_column, without_stream};
 ghost use Rattle.pdc_open_row.specs.Chosen.{disagreements_of};
 ghost use Rattle.pdc_open_row.specs.Layout.{layout_view};
-ghost use Rattle.pdc_open_row.specs.OpenRowParts.{blocks_after, worst_after};
+ghost use Rattle.pdc_open_row.specs.OpenRowParts.{worst_kept};
 
 use crate::blocks::Blocks;
 use crate::columns::Columns;
-use crate::row_blocks::{WORST_QUALITY, Written, give, make_slot};
+use crate::row_blocks::{WORST_QUALITY, give};
 use crate::streams::{all_taken, falses};
 use crate::{MAX_COLUMNS, PutOutcome, RowLayout, WaitRule, copy_items};
 use arrayvec::ArrayVec;
-use pdc_row::{Block, CopyFrom, DueRow, Shape};
+use pdc_row::{CopyFrom, DueRow, RowBlocks, Shape};
 use std::marker::Model;
 
 /// For how many streams and columns a row has a place.
@@ -205,7 +206,7 @@ impl OpenRow {
     pub fn close(&self, layout: &RowLayout) -> DueRow
         ensures { row_view result ≡ row_of (layout_view layout.now) self.now }
     {
-        let mut blocks = ArrayVec::from_array_in((), Default::default());
+        let mut blocks = RowBlocks::new();
         let quality = self.fill(layout, &mut blocks);
         DueRow {
             instant: self.instant,
@@ -226,126 +227,51 @@ impl OpenRow {
         row.quality = self.fill(layout, &mut row.blocks);
     }
 
-    /// Writes the blocks of the next columns over these, up to a column that is out of the common: one without a shape, one whose lane 0
-    /// holds no present block, or one behind the last of these blocks.
+    /// Appends the block of the column at this place, if it has a shape. It answers the number above the worst quality so far.
     #[inline(always)]
-    fn give_front(&self, shapes: &[Option<Shape>], blocks: &mut [Block], from: Written) -> Written
-        requires place { from.place ≤ length shapes.now }
-        requires count { from.count ≤ length blocks.old }
-        requires few { from.count ≤ from.place }
-        requires above { from.above ≤ WORST_QUALITY + 1 }
-        ensures on { from.place ≤ result.place }
-        ensures columns { result.place ≤ length shapes.now }
-        ensures held { result.count ≤ length blocks.new }
-        ensures few { result.count ≤ result.place }
-        ensures len { length blocks.new ≡ length blocks.old }
-        ensures blocks { blocks_after result blocks.new shapes.now self.now.columns
-            ≡ blocks_after from blocks.old shapes.now self.now.columns }
-        ensures quality { worst_after result shapes.now self.now.columns ≡
-            worst_after from shapes.now self.now.columns }
-        ensures fits { result.above ≤ WORST_QUALITY + 1 }
-    {
-        let columns = shapes.len().min(self.columns.len()).min(MAX_COLUMNS);
-        let left = columns
-            .saturating_sub(from.place)
-            .min(blocks.len() - from.count);
-        let mut count = from.count;
-        let mut above = from.above;
-        for place in from.place..from.place + left {
-            let Some(shape) = &shapes[place] else {
-                return Written {
-                    place,
-                    count,
-                    above,
-                };
-            };
-            let Some(chosen) = self.columns.first_at(place) else {
-                return Written {
-                    place,
-                    count,
-                    above,
-                };
-            };
-            above = give(Some(chosen), shape, blocks, count, above);
-            count += 1;
-        }
-        Written {
-            place: from.place + left,
-            count,
-            above,
-        }
-    }
-
-    /// Writes the block of the next column, whatever it holds, if it has a shape. A call of its own, since most columns do not need it.
-    #[inline(never)]
-    fn give_next(
+    fn give_at(
         &self,
         shapes: &[Option<Shape>],
-        blocks: &mut ArrayVec<Block, MAX_COLUMNS>,
-        from: Written,
-    ) -> Written
-        requires place { from.place < length shapes.now }
-        requires most { length shapes.now ≤ MAX_COLUMNS }
-        requires count { from.count ≤ length blocks.old.items }
-        requires few { from.count ≤ from.place }
-        requires above { from.above ≤ WORST_QUALITY + 1 }
-        ensures on { result.place ≡ from.place + 1 }
-        ensures held { result.count ≤ length blocks.new.items }
-        ensures few { result.count ≤ result.place }
-        ensures blocks { blocks_after result blocks.new.items shapes.now self.now.columns
-            ≡ blocks_after from blocks.old.items shapes.now self.now.columns }
-        ensures quality { worst_after result shapes.now self.now.columns ≡
-            worst_after from shapes.now self.now.columns }
-        ensures fits { result.above ≤ WORST_QUALITY + 1 }
+        place: usize,
+        blocks: &mut RowBlocks,
+        above: u32,
+    ) -> u32
+        requires place { place < length shapes.now }
+        requires room { length blocks.old < MAX_COLUMNS }
+        requires above { above ≤ WORST_QUALITY + 1 }
+        ensures blocks { blocks.new
+            ++ blocks_of (drop (place + 1) shapes.now) (drop (place + 1) self.now.columns)
+            ≡ blocks.old ++ blocks_of (drop place shapes.now) (drop place self.now.columns) }
+        ensures quality { worst_of (worst_kept result)
+            (qualities_of (drop (place + 1) shapes.now) (drop (place + 1) self.now.columns))
+            ≡ worst_of (worst_kept above)
+            (qualities_of (drop place shapes.now) (drop place self.now.columns)) }
+        ensures fits { result ≤ WORST_QUALITY + 1 }
+        ensures few { length blocks.new ≤ length blocks.old + 1 }
     {
-        let Written {
-            place,
-            count,
-            above,
-        } = from;
-        let Some(shape) = &shapes[place] else {
-            return Written {
-                place: place + 1,
-                count,
-                above,
-            };
-        };
-        make_slot(blocks, count);
-        let chosen = self.columns.chosen_at(place);
-        let above = give(chosen, shape, blocks.as_mut_slice(), count, above);
-        Written {
-            place: place + 1,
-            count: count + 1,
-            above,
+        match shapes[place] {
+            Some(shape) => give(self.columns.chosen_at(place), shape, blocks, above),
+            None => above,
         }
     }
 
-    /// Makes these the blocks of the row that it closes to, and answers its quality. Blocks that are there are written over, each in
-    /// place.
-    pub fn fill(&self, layout: &RowLayout, blocks: &mut ArrayVec<Block, MAX_COLUMNS>) -> u8
-        ensures blocks { map block_view blocks.new.items ≡
-            (row_of (layout_view layout.now) self.now).blocks }
+    /// Makes these the blocks of the row that it closes to, and answers its quality.
+    pub fn fill(&self, layout: &RowLayout, blocks: &mut RowBlocks) -> u8
+        ensures blocks { blocks.new ≡ (row_of (layout_view layout.now) self.now).blocks }
         ensures quality { result ≡ (row_of (layout_view layout.now) self.now).quality }
         ensures fits { result ≤ WORST_QUALITY }
-        ensures few { length blocks.new.items ≤ MAX_COLUMNS }
+        ensures few { length blocks.new ≤ MAX_COLUMNS }
     {
         let shapes = layout.shapes.as_slice();
-        let mut written = Written {
-            place: 0,
-            count: 0,
-            above: 0,
-        };
-        while written.place < shapes.len() {
-            written = self.give_front(shapes, blocks.as_mut_slice(), written);
-            if written.place < shapes.len() {
-                written = self.give_next(shapes, blocks, written);
-            }
+        blocks.clear();
+        let mut above = 0;
+        for place in 0..shapes.len() {
+            above = self.give_at(shapes, place, blocks, above);
         }
-        blocks.truncate(written.count);
-        if written.above == 0 {
+        if above == 0 {
             WORST_QUALITY
         } else {
-            (written.above - 1) as u8
+            (above - 1) as u8
         }
     }
 }

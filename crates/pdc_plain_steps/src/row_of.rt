@@ -23,7 +23,7 @@ use crate::taking::cell_of;
 use arrayvec::ArrayVec;
 use pdc_block::{Block, absent};
 use pdc_life::MAX_PMUS;
-use pdc_row::{DueRow, is_present};
+use pdc_row::{DueRow, RowBlocks, is_present};
 use std::alloc::{AllocError, Global};
 
 /// The quality of a row in which no block is present.
@@ -183,7 +183,7 @@ fn row_of(given: &Given, life: &[Answered], instant: u64) -> DueRow
         start: given.start,
         change: change_number(given, life),
         quality: row_quality(given, life, instant),
-        blocks: blocks_at(given, life, instant),
+        blocks: RowBlocks::from_blocks(blocks_at(given, life, instant).as_slice()),
     }
 }
 

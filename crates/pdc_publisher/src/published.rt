@@ -5,7 +5,7 @@ ghost use Rattle.pdc_row.specs.RowView.{row_view};
 ghost use Rattle.pdc_publisher.specs.Published.{IsOfSomeRow, IsRowFrame, no_row};
 
 use arrayvec::ArrayVec;
-use pdc_row::{DueRow, MAX_ROW_LEN, Output, append_row, write_row};
+use pdc_row::{DueRow, MAX_ROW_LEN, Output, RowBlocks, append_row, write_row};
 
 /// The data frame of a row that was published (C37.118.2-2011, 6.3).
 #[derive(Drop)]
@@ -35,7 +35,7 @@ pub fn spare_frame(output: &Output) -> Published
         start: 0,
         change: 0,
         quality: 15,
-        blocks: ArrayVec::new(),
+        blocks: RowBlocks::new(),
     };
     frame_of(output, &row)
 }
@@ -47,6 +47,7 @@ pub fn frame_of(output: &Output, row: &DueRow) -> Published
     ensures frame { IsRowFrame result.instant result.start result.change result.bytes.items
         output.now (row_view row.now) }
 {
+    row.blocks.are_whole();
     let mut bytes = ArrayVec::new();
     append_row(output, row, &mut bytes).unwrap();
     Published {
@@ -65,6 +66,7 @@ pub fn write_over(output: &Output, row: &DueRow, frame: &mut Published)
     ensures frame { IsRowFrame frame.new.instant frame.new.start frame.new.change
         frame.new.bytes.items output.now (row_view row.now) }
 {
+    row.blocks.are_whole();
     write_row(output, row, &mut frame.bytes);
     frame.output = *output;
     frame.instant = row.instant;

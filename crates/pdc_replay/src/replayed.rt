@@ -10,9 +10,11 @@ use crate::begins::{Begins, Unbegun};
 use crate::halt::Halt;
 use crate::seen::{Layout, Section, SeenRow, drop_layouts, layout_of};
 use crate::steps::{arrive, compare_layout, compare_popped, pass, pop, tick, write_layout};
+use arrayvec::ArrayVec;
 use pdc_core::Ticked;
 use pdc_life::{MAX_PMUS, Outcome};
 use pdc_record::{Begun, Entry, What};
+use pdc_row::{Block, MAX_CUT};
 use pdc_table::{DueRow, spare_row};
 use std::alloc::{AllocError, Global};
 
@@ -25,8 +27,10 @@ pub struct Replayed<C: Begins> {
     frames: u64,
     /// How many datagrams were not kept whole.
     unkept: u64,
-    /// The row that was popped last.
+    /// The row that was popped last,
     row: DueRow,
+    /// and its blocks.
+    blocks: ArrayVec<Block, MAX_CUT>,
     /// The frame of a row or of a layout.
     wire: Vec<u8>,
     /// The layouts of rows that were not popped yet, and that in force, the oldest first.
@@ -63,6 +67,7 @@ impl<C: Begins> Replayed<C> {
             frames: 0,
             unkept: 0,
             row: spare_row(),
+            blocks: ArrayVec::new(),
             wire: Vec::new(alloc),
             layouts: Vec::new(alloc),
         })
@@ -94,7 +99,7 @@ impl<C: Begins> Replayed<C> {
         }
         SeenRow {
             instant: self.row.instant,
-            blocks: self.row.blocks.as_slice(),
+            blocks: self.blocks.as_slice(),
             sections,
         }
     }
@@ -174,6 +179,7 @@ impl<C: Begins> Replayed<C> {
         if let Err(what) = pop(&mut self.core, &mut self.row, Some(instant)) {
             return Err(Halt::Differs { step, what });
         }
+        self.blocks = self.row.blocks.to_blocks();
         drop_layouts(&mut self.layouts, self.row.change);
         compare_popped(
             self.alloc,

@@ -1,22 +1,15 @@
 -- The payload of a row's frame.
-use Rattle.std.proofs.Common.{◌≡◌, inr, ℕ, ◌^◌, ◌<◌, ◌≤◌, List, length, map, refl, sym, subst, ◌∙◌, arith}
+use Rattle.std.proofs.Common.{◌≡◌, inr, ℕ, ◌^◌, ◌<◌, ◌≤◌, List, length, refl, subst, arith}
 use Rattle.std.specs.Int.{w16, to_be_bytes}
-use Rattle.std.specs.List.{flat_map}
-use Rattle.std.proofs.lemmas.List.Folds.{flat_map-map}
 use Rattle.pdc_row.specs.pdc_frame.Frame.{Fields, Fits, IsFrame}
 use Rattle.pdc_row.specs.pdc_frame.declared.frame.Kind.TheVariants.{DataFrame}
 use Rattle.pdc_row.specs.pdc_frame.Tag.{tag_of}
-use Rattle.pdc_row.specs.pdc_block.declared.block.Block.{Block}
-use Rattle.pdc_row.specs.pdc_block.Block.{bytes_of_words, bytes_of_blocks, words_of}
-use Rattle.pdc_row.specs.CellView.{BlockView, block_view}
+use Rattle.pdc_row.specs.pdc_block.Block.{bytes_of_words}
+use Rattle.pdc_row.specs.CellView.{BlockView}
 use Rattle.pdc_row.specs.RowView.{RowView}
 use Rattle.pdc_row.specs.declared.output.Output.{Output}
 use Rattle.pdc_row.specs.Layout.{own_block, row_payload, row_fields, wire_of}
 use Rattle.pdc_row.proofs.Bytes.{Bytes, Bytes-append, Bytes-flat_map, Bytes-word}
-
--- the bytes of blocks, by their words
-pub same_blocks : (blocks : List Block) → bytes_of_blocks (map words_of blocks) ≡ flat_map (λ (b : BlockView). bytes_of_words b.words) (map block_view blocks)
-same_blocks blocks = flat_map-map bytes_of_words words_of blocks ∙ sym (flat_map-map (λ (b : BlockView). bytes_of_words b.words) block_view blocks)
 
 Bytes-words : (words : List ℕ) → Bytes (bytes_of_words words)
 Bytes-words words = Bytes-flat_map (to_be_bytes w16) Bytes-word words

@@ -1,5 +1,6 @@
 pub mod CellView
 pub mod Chosen
+pub mod KeptBlocks
 pub mod Quality
 pub mod Rising
 pub mod RisingLaws

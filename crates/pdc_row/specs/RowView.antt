@@ -1,6 +1,6 @@
 -- What a contract sees of a closed row.
 use Rattle.std.specs.Prelude.{ℕ, List, map}
-use Rattle.pdc_row.specs.CellView.{BlockView, block_view}
+use Rattle.pdc_row.specs.CellView.{BlockView}
 use Rattle.pdc_row.specs.declared.due_row.DueRow.{DueRow}
 
 -- a row that closed: its instant, the stamp under which it did, its time quality, and a block for each PMU that had a
@@ -18,7 +18,7 @@ row_view row = record {
   start = row.start;
   change = row.change;
   quality = row.quality;
-  blocks = map block_view row.blocks.items;
+  blocks = row.blocks;
 }
 
 abbrev pub row_instants : List RowView → List ℕ

@@ -1,11 +1,8 @@
 //! A closed row.
-ghost use Rattle.std.specs.Prelude.{◌≡◌, ◌≤◌, length, map};
-ghost use Rattle.pdc_row.specs.CellView.{block_view};
+ghost use Rattle.std.specs.Prelude.{◌≤◌, length};
 ghost use Rattle.pdc_row.specs.declared.limits.TheConstants.{MAX_PMUS};
 
-use crate::limits::MAX_PMUS;
-use arrayvec::ArrayVec;
-use pdc_block::Block;
+use crate::row_blocks::RowBlocks;
 use std::alloc::AllocError;
 
 /// The row of an instant that is closed.
@@ -20,13 +17,14 @@ pub struct DueRow {
     /// Time quality, 0 to 15, greater is worse: the worst of the frames whose blocks are present, 15 if none is.
     pub quality: u8,
     /// The block of each column that had a shape, in column order, at most 16.
-    pub blocks: ArrayVec<Block, MAX_PMUS>,
+    pub blocks: RowBlocks,
     pub ghost quality_fits: { quality ≤ 15 },
-    pub ghost few: { length blocks.items ≤ MAX_PMUS },
+    pub ghost few: { length blocks ≤ MAX_PMUS },
 }
 
 /// A copy takes no memory.
 impl Clone for DueRow {
+    ghost use Rattle.std.specs.Prelude.{◌≡◌};
     ghost use Rattle.pdc_row.specs.RowView.{row_view};
 
     ghost is_clone = { λ row copy. row_view copy ≡ row_view row };
@@ -39,19 +37,7 @@ impl Clone for DueRow {
             start: self.start,
             change: self.change,
             quality: self.quality,
-            blocks: copies(self.blocks.as_slice()),
+            blocks: self.blocks.copy(),
         })
     }
-}
-
-/// The same blocks again.
-fn copies(blocks: &[Block]) -> ArrayVec<Block, MAX_PMUS>
-    requires { length blocks.now ≤ MAX_PMUS }
-    ensures { map block_view result.items ≡ map block_view blocks.now }
-{
-    let mut copies = ArrayVec::new();
-    for block in blocks {
-        copies.push(Block::from_words(block.shape, block.words()));
-    }
-    copies
 }

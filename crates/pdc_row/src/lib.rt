@@ -18,10 +18,10 @@ mod offered;
 mod output;
 mod output_laws;
 mod present;
+mod row_blocks;
 mod row_frame;
 mod section;
 mod stamp;
-mod written;
 
 pub use cell::Cell;
 pub use copied::{CopyFrom, copy_each};
@@ -34,12 +34,12 @@ pub use output::{Nominal, Output};
 pub use output_laws::{layouts_are_frames, own_sections_tell_stamps, rows_are_frames};
 pub use pdc_block::{
     Block, Body, Buffer, CHECK_LEN, CfgFault, ConfigView, Frame, FrameFault, HEADER_LEN, Kind,
-    MAX_SECTION_LEN, OVERHEAD, Section, SectionView, Shape, StreamId, append_blocks, append_words,
-    begin_frame, bodies_are_their_words, configurations_are_read_in_one_way, end_frame,
+    MAX_SECTION_LEN, OVERHEAD, Section, SectionView, Shape, StreamId, append_words, begin_frame,
+    bodies_are_their_words, configurations_are_read_in_one_way, end_frame,
     frames_are_read_in_one_way, frames_are_written_in_parts, instant, instant_is_nearest,
-    joined_len, read_body, read_config, read_frame, read_word, set_absent, words_are_cut,
-    write_blocks, write_config, write_ends,
+    read_body, read_config, read_frame, read_word, words_are_cut, write_config, write_ends,
 };
 pub use present::is_present;
+pub use row_blocks::{MAX_BLOCKS_LEN, MAX_CUT, RowBlocks};
 pub use row_frame::{MAX_ROW_LEN, OWN_BLOCK_LEN, append_row, write_row};
 pub use section::own_section;

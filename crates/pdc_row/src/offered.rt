@@ -1,14 +1,24 @@
 //! A block that is offered to a table, wherever its words lie.
 ghost use Rattle.std.specs.Prelude.{◌≡◌, length, nat_eq};
 ghost use Rattle.std.specs.Cmp.Lexicographic.{pointwise};
-ghost use Rattle.pdc_block.specs.pdc_cfg.Shape.{word_count_of};
+ghost use Rattle.pdc_block.specs.Block.{body_len_of, words_in};
+ghost use Rattle.pdc_block.specs.pdc_cfg.pdc_frame.Bytes.{AreBytes};
 ghost use Rattle.pdc_row.specs.CellView.{BlockView};
 
-use crate::written::are_written;
-use pdc_block::{Block, Body, Shape};
+use arrayvec::ArrayVec;
+use pdc_block::{Block, Body, MAX_WORDS, Shape, append_words};
 
-/// A block that is offered to a table: kept in a [`Block`], or lent from the payload that brought it, as a [`Body`]. Its words are
-/// copied once, to where the table keeps them.
+/// The most bytes of a block.
+pub const MAX_BODY_LEN: usize = 214;
+
+/// What lies in a slice of bytes are bytes.
+#[inline(always)]
+pub fn are_bytes(bytes: &[u8])
+    ensures { AreBytes bytes.now }
+{}
+
+/// A block that is offered to a table: kept in a [`Block`], or lent from the payload that brought it, as a [`Body`]. Its bytes are copied
+/// once, to where the table keeps them.
 pub trait Offered {
     /// The shape and the words.
     ghost view: { Self → BlockView };
@@ -17,15 +27,15 @@ pub trait Offered {
     fn shape(&self) -> Shape
         ensures { result ≡ (view self.now).shape };
 
-    /// Writes the words, in wire order, over these.
-    fn write_words(&self, words: &mut [u16])
-        requires { length words.old ≡ word_count_of (view self.now).shape }
-        ensures { words.new ≡ (view self.now).words };
+    /// Writes the words, in wire order, each with its high byte first, over these bytes.
+    fn write_bytes(&self, bytes: &mut [u8])
+        requires { length bytes.old ≡ body_len_of (view self.now).shape }
+        ensures { words_in bytes.new ≡ (view self.now).words };
 
-    /// Whether these are the words.
-    fn has_words(&self, words: &[u16]) -> bool
-        requires { length words.now ≡ word_count_of (view self.now).shape }
-        ensures { result ≡ pointwise nat_eq words.now (view self.now).words };
+    /// Whether these bytes write the words.
+    fn has_bytes(&self, bytes: &[u8]) -> bool
+        requires { length bytes.now ≡ body_len_of (view self.now).shape }
+        ensures { result ≡ pointwise nat_eq (words_in bytes.now) (view self.now).words };
 }
 
 impl Offered for Block {
@@ -38,14 +48,21 @@ impl Offered for Block {
         self.shape
     }
 
-    #[inline]
-    fn write_words(&self, words: &mut [u16]) {
-        words.copy_from_slice(self.words());
+    fn write_bytes(&self, bytes: &mut [u8]) {
+        let mut written: ArrayVec<u8, MAX_BODY_LEN> = ArrayVec::new();
+        append_words(self.words(), &mut written);
+        bytes.copy_from_slice(written.as_slice());
     }
 
-    #[inline]
-    fn has_words(&self, words: &[u16]) -> bool {
-        words == self.words()
+    fn has_bytes(&self, bytes: &[u8]) -> bool {
+        let mut words = [0; MAX_WORDS];
+        let read = &mut words[..self.words().len()];
+        let body = Body {
+            shape: self.shape,
+            bytes,
+        };
+        body.write_words(read);
+        *read == *self.words()
     }
 }
 
@@ -59,13 +76,15 @@ impl Offered for Body<'_> {
         self.shape
     }
 
-    #[inline]
-    fn write_words(&self, words: &mut [u16]) {
-        Body::write_words(self, words);
+    #[inline(always)]
+    fn write_bytes(&self, bytes: &mut [u8]) {
+        bytes.copy_from_slice(self.bytes);
     }
 
     #[inline(always)]
-    fn has_words(&self, words: &[u16]) -> bool {
-        are_written(words, self.bytes)
+    fn has_bytes(&self, bytes: &[u8]) -> bool {
+        are_bytes(bytes);
+        are_bytes(self.bytes);
+        bytes == self.bytes
     }
 }

@@ -1,9 +1,11 @@
 //! Which blocks count as data that came.
 ghost use Rattle.std.specs.Prelude.{◌≡◌, length};
 ghost use Rattle.pdc_block.specs.pdc_cfg.Shape.{word_count_of};
+ghost use Rattle.pdc_block.specs.Block.{body_len_of};
 ghost use Rattle.pdc_row.specs.CellView.{block_view, is_present};
+ghost use Rattle.pdc_row.specs.KeptBlocks.{written_by};
 
-use pdc_block::{Block, Shape, are_absent};
+use pdc_block::{ABSENT_STAT, Block, Body, MAX_WORDS, Shape, are_absent, read_word};
 
 /// Whether the block is any other than the absent block of its shape, whoever sent it.
 pub fn is_present(block: &Block) -> bool
@@ -13,9 +15,30 @@ pub fn is_present(block: &Block) -> bool
 }
 
 /// Whether these words of a block of the shape are any other than those of its absent block.
-pub fn are_present(shape: Shape, words: &[u16]) -> bool
+fn are_present(shape: Shape, words: &[u16]) -> bool
     requires { length words.now ≡ word_count_of shape }
     ensures { result ≡ is_present (record { shape = shape; words = words.now }) }
 {
     !are_absent(shape, words)
+}
+
+/// Whether the block of the shape that these bytes write is any other than the absent one: nearly always its first word tells.
+#[inline(always)]
+pub fn has_data(shape: Shape, bytes: &[u8]) -> bool
+    requires { length bytes.now ≡ body_len_of shape }
+    ensures { result ≡ is_present (written_by shape bytes.now) }
+{
+    read_word(bytes, 0) != ABSENT_STAT || has_other_words(shape, bytes)
+}
+
+/// The same. A call of its own, so that a look at a block that is present stays small.
+#[inline(never)]
+fn has_other_words(shape: Shape, bytes: &[u8]) -> bool
+    requires { length bytes.now ≡ body_len_of shape }
+    ensures { result ≡ is_present (written_by shape bytes.now) }
+{
+    let mut words = [0; MAX_WORDS];
+    let read = &mut words[..shape.word_count()];
+    Body { shape, bytes }.write_words(read);
+    are_present(shape, read)
 }

@@ -1,9 +1,10 @@
 //! The data frame of a closed row (C37.118.2-2011, 6.3).
-ghost use Rattle.std.specs.Prelude.{◌≡◌, ◌+◌, ◌*◌, ◌<◌, ◌≤◌, ◌++◌, [], length, sum_by, IsOk};
+ghost use Rattle.std.specs.Prelude.{◌≡◌, ◌+◌, ◌*◌, ◌<◌, ◌≤◌, ◌++◌, [], length, IsOk};
 ghost use Rattle.std.specs.Prelude.{OnOk, OnErr};
 ghost use Rattle.pdc_row.specs.pdc_frame.Frame.{IsFrame, fields_of};
 ghost use Rattle.pdc_row.specs.pdc_frame.declared.frame.Kind.TheVariants.{DataFrame};
-ghost use Rattle.pdc_row.specs.pdc_block.Block.{bytes_of_words, body_len_of, shape_of};
+ghost use Rattle.pdc_row.specs.pdc_block.Block.{bytes_of_words};
+ghost use Rattle.pdc_row.specs.KeptBlocks.{bytes_of};
 ghost use Rattle.pdc_row.specs.pdc_frame.declared.tag_limits.TheConstants.{SECONDS};
 ghost use Rattle.pdc_row.specs.pdc_frame.Tag.{tag_of};
 ghost use Rattle.pdc_row.specs.RowView.{row_view};
@@ -14,8 +15,8 @@ use crate::output::Output;
 use crate::stamp::stamp_words;
 use arrayvec::ArrayVec;
 use pdc_block::{
-    Buffer, CHECK_LEN, Frame, HEADER_LEN, Kind, OVERHEAD, append_blocks, append_words, begin_frame,
-    end_frame, frames_are_written_in_parts, joined_len, tag_of, write_blocks, write_ends,
+    Buffer, CHECK_LEN, Frame, HEADER_LEN, Kind, OVERHEAD, append_words, begin_frame, end_frame,
+    frames_are_written_in_parts, tag_of, write_ends,
 };
 use std::alloc::AllocError;
 
@@ -31,11 +32,10 @@ pub const MAX_ROW_LEN: usize = LONGEST_PAYLOAD + OVERHEAD;
 /// The bytes of the frame's payload.
 fn payload_len(row: &DueRow) -> usize
     ensures value { result ≡ length (row_payload (row_view row.now)) }
-    ensures blocks { result ≡ OWN_BLOCK_LEN +
-        sum_by (λ block. body_len_of (shape_of block)) row.now.blocks.items }
+    ensures blocks { result ≡ OWN_BLOCK_LEN + length (bytes_of row.now.blocks) }
     ensures most { result ≤ LONGEST_PAYLOAD }
 {
-    OWN_BLOCK_LEN + joined_len(row.blocks.as_slice())
+    OWN_BLOCK_LEN + row.blocks.bytes().len()
 }
 
 /// Appends the own block. It takes no memory.
@@ -52,13 +52,13 @@ fn append_own_block<B: Buffer>(start: u32, change: u32, out: &mut B)
 
 /// Appends the payload: the own block and the blocks of the row. It takes no memory.
 fn append_payload<B: Buffer>(row: &DueRow, out: &mut B)
-    requires { length (B.content out.old) + OWN_BLOCK_LEN +
-        sum_by (λ block. body_len_of (shape_of block)) row.now.blocks.items ≤ B.capacity out.old }
+    requires { length (B.content out.old) + OWN_BLOCK_LEN + length (bytes_of row.now.blocks) ≤
+        B.capacity out.old }
     ensures content { B.content out.new ≡ B.content out.old ++ row_payload (row_view row.now) }
     ensures in_place { B.capacity out.new ≡ B.capacity out.old }
 {
     append_own_block(row.start, row.change, out);
-    append_blocks(row.blocks.as_slice(), out);
+    out.append_bytes(row.blocks.bytes());
 }
 
 /// The fields of the frame, without its payload.
@@ -137,20 +137,18 @@ fn write_own_block(start: u32, change: u32, bytes: &mut [u8])
 
 /// Writes the payload over these bytes: the own block and the blocks of the row.
 fn write_payload(row: &DueRow, bytes: &mut [u8])
-    requires { length bytes.old ≡ OWN_BLOCK_LEN +
-        sum_by (λ block. body_len_of (shape_of block)) row.now.blocks.items }
+    requires { length bytes.old ≡ OWN_BLOCK_LEN + length (bytes_of row.now.blocks) }
     ensures { bytes.new ≡ row_payload (row_view row.now) }
 {
     let (own, blocks) = bytes.split_at_mut(OWN_BLOCK_LEN);
     write_own_block(row.start, row.change, own);
-    write_blocks(row.blocks.as_slice(), blocks);
+    blocks.copy_from_slice(row.blocks.bytes());
 }
 
 /// Writes the data frame of the row over these bytes.
 fn write_over(output: &Output, row: &DueRow, bytes: &mut [u8])
     requires instant { row.now.instant < SECONDS * output.now.rate }
-    requires size { length bytes.old ≡ OWN_BLOCK_LEN +
-        sum_by (λ block. body_len_of (shape_of block)) row.now.blocks.items + OVERHEAD }
+    requires size { length bytes.old ≡ OWN_BLOCK_LEN + length (bytes_of row.now.blocks) + OVERHEAD }
     requires most { length bytes.old ≤ MAX_ROW_LEN }
     ensures { bytes.new ≡ wire_of output.now (row_view row.now) }
 {

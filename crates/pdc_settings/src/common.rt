@@ -45,7 +45,7 @@ fn wait_kind_named(name: &str) -> Option<WaitKind>
     }
 }
 
-/// What the wait is counted in: ticks where the key is left out.
+/// What the wait is counted in: the usual kind where the key is left out.
 fn wait_kind(table: &Table) -> Option<WaitKind>
     ensures { result ≡ wait_kind_in (table_view table.now) }
 {
@@ -54,7 +54,7 @@ fn wait_kind(table: &Table) -> Option<WaitKind>
             Some(name) => wait_kind_named(name),
             None => None,
         },
-        None => Some(WaitKind::Relative),
+        None => wait_kind_named(Wanted::WaitKind.usual_text()),
     }
 }
 
@@ -106,7 +106,7 @@ fn tick_named(name: &str) -> Option<TickWhen>
     }
 }
 
-/// When it ticks: once a period where the key is left out.
+/// When it ticks: as is usual where the key is left out.
 fn tick(table: &Table) -> Option<TickWhen>
     ensures { result ≡ tick_in (table_view table.now) }
 {
@@ -115,7 +115,7 @@ fn tick(table: &Table) -> Option<TickWhen>
             Some(name) => tick_named(name),
             None => None,
         },
-        None => Some(TickWhen::Period),
+        None => tick_named(Wanted::Tick.usual_text()),
     }
 }
 

@@ -37,7 +37,7 @@ fn address(table: &Table) -> Result<IpAddr, Wanted>
 {
     match value_at(table, Wanted::Address) {
         Some(value) => ip_of(value).ok_or(Wanted::Address),
-        None => Ok(IpAddr::from([127u8, 0, 0, 1])),
+        None => Ok(Wanted::Address.usual_address()),
     }
 }
 

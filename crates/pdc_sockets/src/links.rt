@@ -90,7 +90,6 @@ fn open_connection<
     S: Sockets,
     R: Net<Listener = TcpListener, Stream = TcpStream> + Clock + Wait,
 >(
-    _sockets: &S,
     rt: &'a R,
     alloc: Global,
     stream: &Stream<'a>,
@@ -146,7 +145,7 @@ fn open_way<'a, S: Sockets, R: Net<Listener = TcpListener, Stream = TcpStream> +
     ensures faults { IfErr result IsOfLinks }
 {
     match asked_at(rt, stream.id, &input.tcp)? {
-        Some(to) => open_connection(sockets, rt, alloc, stream, to),
+        Some(to) => open_connection::<S, R>(rt, alloc, stream, to),
         None => open_port(sockets, rt, network, stream, input),
     }
 }

@@ -250,17 +250,15 @@ impl Machine for ThisMachine {
             journal: &observed.journal,
             each: observed.tallies.as_slice(),
         };
-        match open_links(
+        open_links(
             &SystemSockets,
             rt,
             rt.alloc(),
             network,
             concentrator,
             tallies,
-        ) {
-            Ok(links) => Ok(links),
-            Err(fault) => Err(unopened(fault)),
-        }
+        )
+        .map_err(unopened)
     }
 
     fn open_outputs<R: Net + AllocGlobal>(
@@ -280,15 +278,13 @@ impl Machine for ThisMachine {
         rt: &R,
         described: &Described,
     ) -> Result<TcpListener, ServiceFault> {
-        match open_listener(
+        open_listener(
             &SystemSockets,
             rt,
             &described.network,
             &described.concentrator,
-        ) {
-            Ok(listener) => Ok(listener),
-            Err(fault) => Err(unopened(fault)),
-        }
+        )
+        .map_err(unopened)
     }
 
     fn open_metrics<R: Net<Listener = TcpListener, Stream = TcpStream>>(
@@ -296,9 +292,6 @@ impl Machine for ThisMachine {
         rt: &R,
         described: &Described,
     ) -> Result<Option<TcpListener>, ServiceFault> {
-        match open_metrics(&SystemSockets, rt, &described.network) {
-            Ok(listener) => Ok(listener),
-            Err(fault) => Err(unopened(fault)),
-        }
+        open_metrics(&SystemSockets, rt, &described.network).map_err(unopened)
     }
 }

@@ -19,9 +19,8 @@ use crate::circle::Circle;
 use crate::copied::copy_at_queued;
 use crate::ring::{Rows, count_disagreements, count_due};
 use crate::{ClosingLayout, RowLayout, WaitRule};
-use arrayvec::ArrayVec;
 use pdc_memory::{Held, HeldQueue};
-use pdc_open_row::DueRow;
+use pdc_open_row::{DueRow, RowBlocks};
 use std::alloc::{AllocError, Global};
 
 /// What is closed of a ring and was not popped, and what every closing adds to.
@@ -226,7 +225,7 @@ pub fn pop(
         start: layout.start,
         change: layout.change,
         quality: 0,
-        blocks: ArrayVec::from_array_in((), Default::default()),
+        blocks: RowBlocks::new(),
     };
     row.quality = open_row.fill(layout, &mut row.blocks);
     Some(row)

@@ -1,19 +1,18 @@
 //! A row to pop into.
 ghost use Rattle.std.specs.Prelude.{◌≡◌, []};
 
-use arrayvec::ArrayVec;
-use pdc_open_row::{DueRow, WORST_QUALITY};
+use pdc_open_row::{DueRow, RowBlocks, WORST_QUALITY};
 
 /// A row to be written over by [`Table::pop_into`](crate::Table::pop_into): of instant 0, without blocks.
 pub fn spare_row() -> DueRow
     ensures instant { result.instant ≡ 0 }
-    ensures blocks { result.blocks.items ≡ [] }
+    ensures blocks { result.blocks ≡ [] }
 {
     DueRow {
         instant: 0,
         start: 0,
         change: 0,
         quality: WORST_QUALITY,
-        blocks: ArrayVec::new(),
+        blocks: RowBlocks::new(),
     }
 }

@@ -237,7 +237,7 @@ fn row_text(alloc: Global, row: &DueRow) -> Result<String, AllocError> {
     append_number(&mut text, row.start)?;
     append_number(&mut text, row.change)?;
     append_number(&mut text, u32::from(row.quality))?;
-    for block in row.blocks.as_slice() {
+    for block in &row.blocks.to_blocks() {
         append(&mut text, name_of(block))?;
     }
     Ok(text)

@@ -87,11 +87,7 @@ fn are_same(one: &DueRow, other: &DueRow) -> bool {
         && one.change == other.change
         && one.quality == other.quality
         && one.blocks.len() == other.blocks.len()
-        && one
-            .blocks
-            .iter()
-            .zip(other.blocks.iter())
-            .all(|(a, b)| a.words() == b.words())
+        && one.blocks.bytes() == other.blocks.bytes()
 }
 
 /// Pops from both.

@@ -8,7 +8,9 @@ use arrayvec::ArrayVec;
 use pdc_block::Block;
 use pdc_cfg::{SectionView, Shape, read_config};
 use pdc_frame::{Frame, Kind, StreamId, read_frame};
-use pdc_row::{DueRow, MAX_PMUS, Nominal, Output, append_layout, append_row, own_section};
+use pdc_row::{
+    DueRow, MAX_PMUS, Nominal, Output, RowBlocks, append_layout, append_row, own_section,
+};
 use std::process::Abort;
 
 const ONE_PHASOR: Shape = Shape {
@@ -37,7 +39,7 @@ const NODE_201: Output = Output {
 fn row(first: [u16; 5], second: [u16; 5]) -> DueRow
     ensures { result.instant ≡ 57478860001 }
 {
-    let mut blocks = ArrayVec::new();
+    let mut blocks: ArrayVec<Block, 2> = ArrayVec::new();
     blocks.push(Block::from_words(ONE_PHASOR, &first));
     blocks.push(Block::from_words(ONE_PHASOR, &second));
     DueRow {
@@ -45,7 +47,7 @@ fn row(first: [u16; 5], second: [u16; 5]) -> DueRow
         start: 1,
         change: 1,
         quality: 0,
-        blocks,
+        blocks: RowBlocks::from_blocks(blocks.as_slice()),
     }
 }
 

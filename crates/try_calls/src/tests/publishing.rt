@@ -8,7 +8,7 @@ use pdc_block::Block;
 use pdc_cfg::Shape;
 use pdc_mark::{Mark, ModelMark};
 use pdc_publisher::{PublishFault, Publisher, spare_frame};
-use pdc_row::{DueRow, Nominal, Output, StreamId};
+use pdc_row::{DueRow, Nominal, Output, RowBlocks, StreamId};
 
 /// Node 201: 50 Hz, 50 frames a second and TIME_BASE 1000000.
 const NODE_201: Output = Output {
@@ -31,7 +31,7 @@ const FIRST: u64 = 57_478_860_001;
 fn row(instant: u64) -> DueRow
     ensures { result.instant ≡ instant }
 {
-    let mut blocks = ArrayVec::new();
+    let mut blocks: ArrayVec<Block, 2> = ArrayVec::new();
     blocks.push(Block::from_words(ONE_PHASOR, &[0x0000, 0x392B, 0x0000, 0x09C4, 0x0000]));
     blocks.push(Block::from_words(ONE_PHASOR, &[0x0000, 0x1388, 0xEC78, 0xFFFE, 0x0000]));
     DueRow {
@@ -39,7 +39,7 @@ fn row(instant: u64) -> DueRow
         start: 1,
         change: 1,
         quality: 0,
-        blocks,
+        blocks: RowBlocks::from_blocks(blocks.as_slice()),
     }
 }
 

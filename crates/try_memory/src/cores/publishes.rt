@@ -4,7 +4,7 @@ ghost use Rattle.std.specs.Prelude.{◌≡◌};
 use crate::trial::{DONE, NO_CALL, NO_MEMORY, State, Trial, make, state_of};
 use crate::vectors::{BEFORE, FIRST, WORDS};
 use arrayvec::ArrayVec;
-use pdc_life::{Block, DueRow, Nominal, Output, Shape, StreamId};
+use pdc_life::{Block, DueRow, Nominal, Output, RowBlocks, Shape, StreamId};
 use pdc_mark::{Mark, ModelMark};
 use pdc_publisher::{PublishFault, Published, Publisher, spare_frame};
 use std::alloc::{AllocError, Global};
@@ -28,7 +28,7 @@ const ONE_PHASOR: Shape = Shape {
 fn row(instant: u64, change: u32) -> DueRow
     ensures { result.instant ≡ instant }
 {
-    let mut blocks = ArrayVec::new();
+    let mut blocks: ArrayVec<Block, 2> = ArrayVec::new();
     blocks.push(Block::from_words(ONE_PHASOR, &WORDS));
     blocks.push(Block::from_words(ONE_PHASOR, &WORDS));
     DueRow {
@@ -36,7 +36,7 @@ fn row(instant: u64, change: u32) -> DueRow
         start: 1,
         change,
         quality: 0,
-        blocks,
+        blocks: RowBlocks::from_blocks(blocks.as_slice()),
     }
 }
 
@@ -57,6 +57,7 @@ fn is_row(row: &DueRow) -> bool {
         && row.blocks.len() == 2
         && row
             .blocks
+            .to_blocks()
             .iter()
             .all(|block| block.words() == WORDS.as_slice())
 }

@@ -2,12 +2,11 @@
 ghost use Rattle.std.specs.Prelude.{◌≡◌, ◌<◌, ◌≤◌};
 ghost use Rattle.pdc_server.specs.Stream.{stream_of};
 
-use arrayvec::ArrayVec;
 use pdc_frame::StreamId;
 use pdc_mark::ModelMark;
 use pdc_ports::MemorySink;
 use pdc_publisher::{Publisher, spare_frame};
-use pdc_row::{DueRow, Nominal, Output};
+use pdc_row::{DueRow, Nominal, Output, RowBlocks};
 use pdc_server::{Naming, Outlet, Published, Recent, RememberingSink};
 use std::alloc::Global;
 use std::io;
@@ -45,7 +44,7 @@ fn frame_of(id: StreamId, instant: u16) -> Published {
         start: 1,
         change: 0,
         quality: 15,
-        blocks: ArrayVec::new(),
+        blocks: RowBlocks::new(),
     };
     let mut frame = spare_frame(&output);
     let mut publisher = Publisher::new(ModelMark::new(1, 0), output, 0);

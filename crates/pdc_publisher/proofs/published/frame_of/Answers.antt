@@ -10,7 +10,7 @@ unwrap-requires c = c.append_row.ensures.room (omega (arith, c.append_row.ensure
 pub returns-clause-frame : goal.returns-clause-frame
 returns-clause-frame c =
     let room = c.append_row.ensures.room (omega (arith, c.append_row.ensures.most, ap length c.new-bytes.ensures)) in
-    framed_of c.args.output.now c.args.row.now _ c.requires
+    framed_of c.args.output.now c.args.row.now _ c.are_whole.ensures c.requires
     (appended c.append_row.result c.append_row.new.out.items _ (wire_of c.args.output.now (row_view c.args.row.now)) room c.append_row.ensures.ok c.new-bytes.ensures)
 
 pub invariant_of-result : goal.invariant_of-result
@@ -19,7 +19,7 @@ invariant_of-result c =
     record {
       of_some_row = ∣ (
         row_view c.args.row.now,
-        framed_of c.args.output.now c.args.row.now _ c.requires
+        framed_of c.args.output.now c.args.row.now _ c.are_whole.ensures c.requires
             (appended c.append_row.result c.append_row.new.out.items _ (wire_of c.args.output.now (row_view c.args.row.now)) room c.append_row.ensures.ok c.new-bytes.ensures),
       ) ∣₁;
     }

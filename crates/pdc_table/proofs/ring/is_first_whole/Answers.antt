@@ -4,7 +4,7 @@ use Rattle.std.proofs.lemmas.Option.{same_Some}
 use Rattle.std.proofs.Math.Nat.{mod-lt}
 use Rattle.std.proofs.lemmas.List.{get_or_default}
 use Rattle.pdc_open_row.specs.Due.{all_taken}
-use Rattle.pdc_open_row.specs.Views.{OpenRowView, at_age, blank_row}
+use Rattle.pdc_open_row.specs.Views.{OpenRowView, blank_row}
 use Rattle.pdc_table.specs.RingRows.{row_in, rows_in, with_ages}
 use Rattle.pdc_table.specs.Steps.{is_first_whole}
 use Rattle.pdc_table.proofs.RingAges.{aged_row}

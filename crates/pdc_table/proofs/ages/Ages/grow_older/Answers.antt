@@ -1,4 +1,4 @@
-use Rattle.std.proofs.Common.{◌≡◌, ◌-◌, ◌^◌, ◌∙◌, ap, arith, length, map, sym, subst}
+use Rattle.std.proofs.Common.{◌≡◌, ◌∙◌, ap, arith, length, map, sym, subst}
 use Rattle.pdc_table.specs.AgesView.{AgesView, ages_at, earlier}
 use Rattle.std.specs.List.{refill}
 use Rattle.pdc_table.specs.RingRows.{older}

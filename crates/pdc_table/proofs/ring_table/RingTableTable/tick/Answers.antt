@@ -1,4 +1,4 @@
-use Rattle.std.proofs.Common.{rules, arith, ◌≡◌, ◌≤◌, ◌+◌, ◌++◌, ◌∙◌, ap, length, map, refl, subst, sym, take, vec_len}
+use Rattle.std.proofs.Common.{rules, arith, ◌≡◌, ◌≤◌, ◌+◌, ◌++◌, ◌∙◌, ap, length, map, refl, subst, sym, take}
 use Rattle.std.proofs.lemmas.List.{length-map}
 use Rattle.pdc_table.specs.Closing.{aged, closing, counter, staying}
 use Rattle.pdc_table.specs.Content.{IsContent, streams_of}

@@ -1,0 +1,25 @@
+-- The blocks of a row, kept as the bytes that its frame has of them.
+use Rattle.std.specs.Prelude.{ℕ, ◌*◌, List, [], ◌∷◌, drop, map, take}
+use Rattle.std.specs.List.{flat_map}
+use Rattle.pdc_block.specs.Block.{AreOfShapes, bytes_of_words, words_in}
+use Rattle.pdc_block.specs.pdc_cfg.Shape.{word_count_of}
+use Rattle.pdc_block.specs.pdc_cfg.declared.shape.Shape.{Shape}
+use Rattle.pdc_row.specs.CellView.{BlockView}
+
+-- the block of a shape that these bytes write
+abbrev pub written_by : Shape → List ℕ → BlockView
+written_by shape bytes = record { shape = shape; words = words_in bytes }
+
+-- blocks of these shapes, of which each takes its bytes behind those of the one before
+abbrev pub blocks_in : List Shape → List ℕ → List BlockView
+blocks_in [] bytes = []
+blocks_in (shape ∷ shapes) bytes =
+    written_by shape (take (2 * word_count_of shape) bytes) ∷ blocks_in shapes (drop (2 * word_count_of shape) bytes)
+
+-- each block has the words of its shape, of 16 bits each
+abbrev pub AreWhole : List BlockView → Type 0
+AreWhole blocks = AreOfShapes (map (λ (b : BlockView). b.shape) blocks) (map (λ (b : BlockView). b.words) blocks)
+
+-- the bytes of blocks, one after the other
+abbrev pub bytes_of : List BlockView → List ℕ
+bytes_of blocks = flat_map (λ (b : BlockView). bytes_of_words b.words) blocks
