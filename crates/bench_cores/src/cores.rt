@@ -2,7 +2,7 @@
 ghost use Rattle.std.specs.Prelude.{◌≡◌, ◌<◌, IfOk};
 ghost use Rattle.pdc_publisher.specs.Publisher.{output_in};
 
-use pdc_core::{Core, Reads};
+use pdc_core::{Core, KeptArrival, Reads};
 use pdc_frame::SECONDS;
 use pdc_life::MAX_PMUS;
 use pdc_mark::ModelMark;
@@ -34,6 +34,8 @@ struct Concentrator<C: Core + Drop> {
     streams: usize,
     output: Output,
     publisher: Publisher<ModelMark>,
+    /// What each datagram says is kept here.
+    kept: KeptArrival,
     /// Each row is popped into this one,
     row: DueRow,
     /// and published into this frame.
@@ -58,6 +60,7 @@ impl<C: Core + Drop> Concentrator<C> {
             streams,
             output,
             publisher: Publisher::new(ModelMark::new(1, floor), output, 0),
+            kept: KeptArrival::blank(),
             row: spare_row(),
             frame: spare_frame(&output),
             now: floor,
@@ -70,8 +73,12 @@ impl<C: Core + Drop> Concentrator<C> {
         if stream >= self.streams {
             return;
         }
-        if let Ok(taken) = self.core.settings().read_kept(self.alloc, stream, bytes) {
-            let _ = self.core.arrive_kept(stream, &taken);
+        let settings = self.core.settings();
+        if settings
+            .read_into(self.alloc, stream, bytes, &mut self.kept)
+            .is_ok()
+        {
+            let _ = self.core.arrive_kept(stream, &self.kept);
         }
     }
 

@@ -4,7 +4,7 @@ ghost use Rattle.pdc_life.specs.CoreKind.{given_of, OfNode};
 ghost use Rattle.pdc_node.specs.Node.{StandsFor};
 
 use crate::frames::{FLOOR, Frames};
-use pdc_core::Reads;
+use pdc_core::{KeptArrival, Reads};
 use pdc_hub::{Naming, Replayed};
 use pdc_life::{MAX_PMUS, Settings};
 use pdc_log::{Front, Log};
@@ -22,17 +22,19 @@ const CLEARED: [u16; MAX_PMUS] = [u16::MAX; MAX_PMUS];
 
 /// Reads and keeps each frame, and answers how many there were.
 fn keep_all(alloc: Global, settings: &Settings, frames: &Frames) -> u64 {
-    let mut kept = 0u64;
+    let mut kept = KeptArrival::blank();
+    let mut count = 0u64;
     for number in 0..=frames.count as usize {
         for (stream, list) in frames.streams.iter().enumerate() {
             if stream < settings.pmus.len() && number < list.len() {
-                if settings.read_kept(alloc, stream, &list[number]).is_ok() {
-                    kept = kept.saturating_add(1);
+                let bytes = &list[number];
+                if settings.read_into(alloc, stream, bytes, &mut kept).is_ok() {
+                    count = count.saturating_add(1);
                 }
             }
         }
     }
-    kept
+    count
 }
 
 /// Reads and keeps one frame, and takes it; false where memory runs out.
@@ -42,15 +44,16 @@ fn take_one<N: Naming<Settings>, R: Wait>(
     settings: &Settings,
     core: &mut Replayed<Node<RingTable>, N>,
     front: &mut Front<N>,
+    kept: &mut KeptArrival,
     stream: usize,
     bytes: &[u8],
 ) -> bool
     requires named { N.settings ≡ Some settings.now }
     requires stream { stream < length settings.now.pmus.items }
 {
-    match settings.read_kept(alloc, stream, bytes) {
-        Ok(taken) => {
-            core.arrive(rt, front, stream, bytes, taken);
+    match settings.read_into(alloc, stream, bytes, kept) {
+        Ok(()) => {
+            core.arrive(rt, front, stream, bytes, kept);
             true
         }
         Err(_) => false,
@@ -64,6 +67,7 @@ fn take_instant<N: Naming<Settings>, R: Wait>(
     settings: &Settings,
     core: &mut Replayed<Node<RingTable>, N>,
     front: &mut Front<N>,
+    kept: &mut KeptArrival,
     row: &mut DueRow,
     frames: &Frames,
     number: u32,
@@ -73,7 +77,7 @@ fn take_instant<N: Naming<Settings>, R: Wait>(
     for (stream, list) in frames.streams.iter().enumerate() {
         if stream < settings.pmus.len() && (number as usize) < list.len() {
             let bytes = &list[number as usize];
-            if !take_one(rt, alloc, settings, core, front, stream, bytes) {
+            if !take_one(rt, alloc, settings, core, front, kept, stream, bytes) {
                 return false;
             }
         }
@@ -105,10 +109,11 @@ fn record_all<N: Naming<Settings>, R: Wait>(
     else {
         return false;
     };
+    let mut kept = KeptArrival::blank();
     let mut row = spare_row();
     for number in 0..=frames.count {
         if !take_instant(
-            rt, alloc, settings, &mut core, &mut front, &mut row, frames, number,
+            rt, alloc, settings, &mut core, &mut front, &mut kept, &mut row, frames, number,
         ) {
             return false;
         }

@@ -11,7 +11,7 @@ use Rattle.pdc_align.specs.pdc_arrival.Views.{stamp_view}
 use Rattle.pdc_memory.specs.Asking.{WasRefused}
 
 abbrev pub bytes_of : Payload → List ℕ
-bytes_of (payload.Short bytes) = bytes.items
+bytes_of (payload.Short bytes) = bytes
 bytes_of (payload.Long bytes) = bytes.items
 
 abbrev pub kept_part : KeptSection → ℕ × SectionFields

@@ -1,5 +1,5 @@
 //! What arrived, with its bytes kept: it can be handed on where what was read would not live.
-ghost use Rattle.std.specs.Prelude.{◌≡◌, ◌≤◌, [], ◌∷◌, IfOk, IsOk, None, OnErr, length, map, true};
+ghost use Rattle.std.specs.Prelude.{◌≡◌, ◌≤◌, [], ◌∷◌, IfOk, IsOk, None, OnErr, OnOk, length, map, true};
 ghost use Rattle.pdc_core.specs.KeptArrival.{kept_part, taken_view, takes_no_memory, wanted_of};
 ghost use Rattle.pdc_memory.specs.Asking.{WasRefused};
 ghost use Rattle.pdc_align.specs.pdc_arrival.Views.{arrival_view, section_part};
@@ -7,7 +7,7 @@ ghost use Rattle.pdc_align.specs.pdc_life.Arrival.{Data, Layout};
 ghost use Rattle.pdc_align.specs.pdc_cfg.Section.{fields_of_view};
 ghost use Rattle.pdc_align.specs.pdc_life.Views.{arrival_view as reading_view};
 
-use crate::{KeptLayout, KeptSection, Payload};
+use crate::{KeptLayout, KeptSection, Payload, ShortPayload};
 use arrayvec::ArrayVec;
 use pdc_align::{Arrival, ColumnSection, MAX_PMUS, Reading, Refusal, SectionView};
 use pdc_memory::Held;
@@ -122,6 +122,21 @@ impl KeptArrival {
         }
     }
 
+    /// Makes this a copy of what arrived.
+    ///
+    /// # Errors
+    ///
+    /// As [`KeptArrival::keep`]. Then it stays as it was.
+    pub fn set(&mut self, alloc: Global, arrival: &Arrival<'_>) -> Result<(), AllocError>
+        ensures same { OnOk result (taken_view self.new ≡ arrival_view arrival.now) }
+        ensures refused { OnErr result (WasRefused (wanted_of (arrival_view arrival.now))) }
+        ensures in_place { takes_no_memory (arrival_view arrival.now) ≡ true → IsOk result }
+        ensures err { OnErr result (self.new ≡ self.old) }
+    {
+        *self = KeptArrival::keep(alloc, arrival)?;
+        Ok(())
+    }
+
     /// Data of this instant, with this time quality byte and a copy of this payload.
     ///
     /// # Errors
@@ -146,12 +161,98 @@ impl KeptArrival {
         })
     }
 
+    /// Data of instant 0 without bytes: a place that is written over.
+    #[inline(always)]
+    pub fn blank() -> KeptArrival
+        ensures { taken_view result ≡ Data 0 0 [] }
+    {
+        KeptArrival::Data {
+            instant: 0,
+            quality: 0,
+            payload: Payload::Short(ShortPayload::new()),
+        }
+    }
+
+    /// Makes this data of this instant, with this time quality byte and a copy of this payload. Data of at most 214 bytes is written over such
+    /// data in place, and a longer payload over one of its length.
+    ///
+    /// # Errors
+    ///
+    /// [`AllocError`] where the payload has more than 214 bytes, and there is no memory. Then it stays as it was.
+    #[inline(always)]
+    pub fn set_data(
+        &mut self,
+        alloc: Global,
+        instant: u64,
+        quality: u8,
+        payload: &[u8],
+    ) -> Result<(), AllocError>
+        ensures same { OnOk result (taken_view self.new ≡ Data instant quality payload.now) }
+        ensures refused { OnErr result (WasRefused (length payload.now)) }
+        ensures in_place { takes_no_memory (Data instant quality payload.now) ≡ true →
+            IsOk result }
+        ensures err { OnErr result (self.new ≡ self.old) }
+    {
+        if let KeptArrival::Data {
+            instant: own_instant,
+            quality: own_quality,
+            payload: own,
+        } = self
+        {
+            if own.set(payload) {
+                *own_instant = instant;
+                *own_quality = quality;
+                return Ok(());
+            }
+        }
+        self.renew_data(alloc, instant, quality, payload)
+    }
+
+    /// The same where nothing can be written over. A call of its own, since it is seldom.
+    #[inline(never)]
+    fn renew_data(
+        &mut self,
+        alloc: Global,
+        instant: u64,
+        quality: u8,
+        payload: &[u8],
+    ) -> Result<(), AllocError>
+        ensures same { OnOk result (taken_view self.new ≡ Data instant quality payload.now) }
+        ensures refused { OnErr result (WasRefused (length payload.now)) }
+        ensures in_place { takes_no_memory (Data instant quality payload.now) ≡ true →
+            IsOk result }
+        ensures err { OnErr result (self.new ≡ self.old) }
+    {
+        *self = KeptArrival::keep_data(alloc, instant, quality, payload)?;
+        Ok(())
+    }
+
+    /// Makes this a copy of what is read of a PMU, whose configuration is of this column.
+    ///
+    /// # Errors
+    ///
+    /// [`AllocError`] where there is no memory. Refused bytes and data of at most 214 bytes take none. Then it stays as it was.
+    #[inline(never)]
+    pub fn set_reading(
+        &mut self,
+        alloc: Global,
+        column: usize,
+        reading: &Reading<'_, SectionView<'_>>,
+    ) -> Result<(), AllocError>
+        ensures same { OnOk result (taken_view self.new ≡ reading_view column reading.now) }
+        ensures refused { OnErr result (WasRefused (wanted_of (reading_view column reading.now))) }
+        ensures in_place { takes_no_memory (reading_view column reading.now) ≡ true → IsOk result }
+        ensures err { OnErr result (self.new ≡ self.old) }
+    {
+        *self = KeptArrival::keep_reading(alloc, column, reading)?;
+        Ok(())
+    }
+
     /// A copy of what is read of a PMU, whose configuration is of this column.
     ///
     /// # Errors
     ///
     /// [`AllocError`] where there is no memory. Refused bytes and data of at most 214 bytes take none.
-    #[inline(never)]
     pub fn keep_reading(
         alloc: Global,
         column: usize,

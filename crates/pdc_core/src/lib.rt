@@ -20,7 +20,7 @@ pub use core_trait::Core;
 pub use kept_arrival::KeptArrival;
 pub use kept_layout::{KeptLayout, KeptSection};
 pub use opens::Opens;
-pub use payload::{Payload, SHORT_PAYLOAD};
+pub use payload::{Payload, SHORT_PAYLOAD, ShortPayload};
 pub use pdc_align::{Counts, Ticked};
 pub use reads::Reads;
 pub use step::{CoreStep, Reply};

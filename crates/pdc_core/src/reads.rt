@@ -1,5 +1,5 @@
 //! Settings by which bytes are read.
-ghost use Rattle.std.specs.Prelude.{◌≡◌, ◌<◌, ℕ, Bool, IfOk, IsOk, List, OnErr, length, true};
+ghost use Rattle.std.specs.Prelude.{◌≡◌, ◌<◌, ℕ, Bool, IfOk, IsOk, List, OnErr, OnOk, length, true};
 ghost use Rattle.pdc_core.specs.Fits.{fits_merger, fits_node};
 ghost use Rattle.pdc_align.specs.pdc_arrival.Heard.{HearsForMerger};
 ghost use Rattle.pdc_core.specs.KeptArrival.{CopyWasRefused, IsMadeInPlace, taken_view};
@@ -8,8 +8,7 @@ ghost use Rattle.pdc_align.specs.pdc_life.CoreKind.{OfMerger, OfNode, Says};
 ghost use Rattle.pdc_align.specs.pdc_arrival.Views.{arrival_view};
 ghost use Rattle.pdc_align.specs.pdc_arrival.declared.from_node.TheConstants.{NODES};
 
-use crate::{KeptArrival, Payload};
-use arrayvec::ArrayVec;
+use crate::KeptArrival;
 use pdc_align::{
     Arrival, Frame, MergerSettings, Reading, Settings, arrival_from_node, hear_from_node,
     hear_from_pmu, read_from_node, read_from_pmu,
@@ -35,6 +34,25 @@ pub trait Reads {
         requires { stream < streams self.now }
         ensures { says self.now stream bytes.now (arrival_view result) };
 
+    /// Writes over what is kept here what the bytes say that came for the stream with this number, with what it needs of them.
+    ///
+    /// # Errors
+    ///
+    /// [`AllocError`] where there is no memory; [`KeptArrival::keep`] tells what takes none. What is kept stays then.
+    fn read_into(
+        &self,
+        alloc: Global,
+        stream: usize,
+        bytes: &[u8],
+        kept: &mut KeptArrival,
+    ) -> Result<(), AllocError>
+        requires { stream < streams self.now }
+        ensures says { OnOk result (says self.now stream bytes.now (taken_view kept.new)) }
+        ensures fits { OnOk result (fits self.now stream (taken_view kept.new) ≡ true) }
+        ensures refused { OnErr result (CopyWasRefused (says self.now stream bytes.now)) }
+        ensures in_place { IsMadeInPlace (says self.now stream bytes.now) (IsOk result) }
+        ensures err { OnErr result (kept.new ≡ kept.old) };
+
     /// What the bytes say that came for the stream with this number, with what it needs of them kept.
     ///
     /// # Errors
@@ -50,7 +68,14 @@ pub trait Reads {
         ensures says { IfOk result (λ taken. says self.now stream bytes.now (taken_view taken)) }
         ensures fits { IfOk result (λ taken. fits self.now stream (taken_view taken) ≡ true) }
         ensures refused { OnErr result (CopyWasRefused (says self.now stream bytes.now)) }
-        ensures in_place { IsMadeInPlace (says self.now stream bytes.now) (IsOk result) };
+        ensures in_place { IsMadeInPlace (says self.now stream bytes.now) (IsOk result) }
+    {
+        let mut kept = KeptArrival::blank();
+        match self.read_into(alloc, stream, bytes, &mut kept) {
+            Ok(()) => Ok(kept),
+            Err(error) => Err(error),
+        }
+    }
 }
 
 /// A node's: a stream comes from each PMU.
@@ -70,30 +95,21 @@ impl Reads for Settings {
     }
 
     #[inline(always)]
-    fn read_kept(
+    fn read_into(
         &self,
         alloc: Global,
         stream: usize,
         bytes: &[u8],
-    ) -> Result<KeptArrival, AllocError> {
-        let reading = hear_from_pmu(self, stream, bytes);
-        if let Reading::Data {
-            instant,
-            quality,
-            payload,
-        } = &reading
-        {
-            // What lies in place is made where it is handed back: a call between would move it.
-            let mut short = ArrayVec::new();
-            if short.try_extend_from_slice(payload).is_ok() {
-                return Ok(KeptArrival::Data {
-                    instant: *instant,
-                    quality: *quality,
-                    payload: Payload::Short(short),
-                });
-            }
+        kept: &mut KeptArrival,
+    ) -> Result<(), AllocError> {
+        match hear_from_pmu(self, stream, bytes) {
+            Reading::Data {
+                instant,
+                quality,
+                payload,
+            } => kept.set_data(alloc, instant, quality, payload),
+            reading => kept.set_reading(alloc, stream, &reading),
         }
-        KeptArrival::keep_reading(alloc, stream, &reading)
     }
 }
 
@@ -115,39 +131,42 @@ impl Reads for MergerSettings {
     }
 
     #[inline(always)]
-    fn read_kept(
+    fn read_into(
         &self,
         alloc: Global,
         stream: usize,
         bytes: &[u8],
-    ) -> Result<KeptArrival, AllocError> {
+        kept: &mut KeptArrival,
+    ) -> Result<(), AllocError> {
         match hear_from_node(self, stream, bytes) {
             Reading::Data {
                 instant,
                 quality,
                 payload,
-            } => KeptArrival::keep_data(alloc, instant, quality, payload),
-            heard => keep_heard(self, alloc, stream, heard),
+            } => kept.set_data(alloc, instant, quality, payload),
+            heard => keep_heard(self, alloc, stream, heard, kept),
         }
     }
 }
 
-/// What was heard of a node, kept. It stands apart, so that data wants no room for what a configuration says.
+/// What was heard of a node, kept here. It stands apart, so that data wants no room for what a configuration says.
 #[inline(never)]
 fn keep_heard(
     settings: &MergerSettings,
     alloc: Global,
     stream: usize,
     heard: Reading<'_, Frame<'_>>,
-) -> Result<KeptArrival, AllocError>
+    kept: &mut KeptArrival,
+) -> Result<(), AllocError>
     requires { stream < NODES }
     ensures says { (bytes : List ℕ) → HearsForMerger settings.now stream bytes heard.entry →
-        IfOk result (λ taken. Says (OfMerger settings.now) stream bytes (taken_view taken)) }
+        OnOk result (Says (OfMerger settings.now) stream bytes (taken_view kept.new)) }
     ensures refused { (bytes : List ℕ) → HearsForMerger settings.now stream bytes heard.entry →
         OnErr result (CopyWasRefused (Says (OfMerger settings.now) stream bytes)) }
     ensures in_place { (bytes : List ℕ) → HearsForMerger settings.now stream bytes heard.entry →
         IsMadeInPlace (Says (OfMerger settings.now) stream bytes) (IsOk result) }
+    ensures err { OnErr result (kept.new ≡ kept.old) }
 {
     let arrival = arrival_from_node(settings, stream, heard);
-    KeptArrival::keep(alloc, &arrival)
+    kept.set(alloc, &arrival)
 }

@@ -1,5 +1,4 @@
-//! The world: two nodes, the merger and a network that loses, repeats and reorders, as the history of what happened in it (this
-//! profile).
+//! The world: two nodes, the merger and a network that loses, repeats and reorders, as the history of what happened in it.
 //!
 //! A history is the list of what happened, newest first, and all else is recursion over it: the life of each
 //! core, the mark that it has stored, the frames that were ever sent and the rows that were published. An event makes the next

@@ -4,6 +4,7 @@ ghost use Rattle.std.specs.Prelude.{false, true};
 ghost use Rattle.pdc_core.specs.KeptArrival.{taken_view};
 ghost use Rattle.pdc_core.specs.Step.{ticked_of};
 ghost use Rattle.pdc_life.specs.Answer.{waiting_counts};
+ghost use Rattle.pdc_life.specs.Arrival.{Data};
 ghost use Rattle.pdc_life.specs.Row.{is_whole};
 ghost use Rattle.pdc_ports.specs.pdc_arrival.Counts.{counts_after};
 ghost use Rattle.pdc_hub.specs.Adding.{AddsArrival, AddsPop, AddsTick, IsLayoutBehind};
@@ -115,7 +116,8 @@ impl<C: Core + Drop, N: Naming<C::Settings>> Hub<C, N> {
     }
 
     /// Adds what arrived for a stream, and counts its answer in the caller's shares. The answer is that of the one life, behind all that the
-    /// caller had seen of it, and bears the number of the step, given under the lock: how many steps that life had.
+    /// caller had seen of it, and bears the number of the step, given under the lock: how many steps that life had. What arrived moves into
+    /// the steps, and a blank one takes its place.
     ///
     /// # Errors
     ///
@@ -125,20 +127,21 @@ impl<C: Core + Drop, N: Naming<C::Settings>> Hub<C, N> {
         rt: &R,
         stream: usize,
         bytes: &[u8],
-        datagram: KeptArrival,
+        datagram: &mut KeptArrival,
         mine: &mut Shares<N>,
     ) -> Result<Numbered<Outcome>, HubFault>
         requires read { WasRead C.Settings.says C.Settings.fits N.settings stream bytes.now
-            (taken_view datagram) }
+            (taken_view datagram.old) }
         requires parts { AreSomeParts mine.old }
         ensures added { IfOk result (AddsArrival C.rules N.given stream bytes.now
-            (taken_view datagram) mine.old mine.new) }
+            (taken_view datagram.old) mine.old mine.new) }
         ensures counted { IfOk result (λ numbered. HaveCountedOne mine.old mine.new
             numbered.answer) }
         ensures most { (mine.new.taken.amount < 2 ^ 64) × (mine.new.refused.amount < 2 ^ 64) }
         ensures parts { HasSameParts mine.old mine.new }
+        ensures moved { OnOk result (taken_view datagram.new ≡ Data 0 0 []) }
         ensures causes { OnErr result (result ≡ Err HubFault.CountsUsedUp) }
-        ensures err { OnErr result (AreAsBefore mine.old mine.new) }
+        ensures err { OnErr result (AreAsBefore mine.old mine.new × (datagram.new ≡ datagram.old)) }
     {
         self.table
             .lock(rt)

@@ -1,5 +1,4 @@
-//! What stands under the lock of a running core: a core beside a base and the steps since, with the books of what they counted (this
-//! profile).
+//! What stands under the lock of a running core: a core beside a base and the steps since, with the books of what they counted.
 //!
 //! The first type to look at is [`Hub`], the lock. Under it the core is at every moment the replay of the kept steps over the base, and the
 //! books have the core's counters.

@@ -3,6 +3,7 @@ ghost use Rattle.std.specs.Prelude.{◌≡◌, ◌+◌, ◌^◌, ◌<◌, ◌≤
 ghost use Rattle.std.specs.Prelude.{OnOk, Some, [], false, true};
 ghost use Rattle.pdc_core.specs.KeptArrival.{taken_view};
 ghost use Rattle.pdc_core.specs.Step.{ticked_of};
+ghost use Rattle.pdc_life.specs.Arrival.{Data};
 ghost use Rattle.pdc_hub.specs.Adding.{AddsArrival, AddsPop, AddsTick, IsLayoutBehind};
 ghost use Rattle.pdc_hub.specs.Counted.{AreAsBefore, AreSomeParts, HasSameAmounts, HasSameParts};
 ghost use Rattle.pdc_hub.specs.Counted.{HaveCountedOne};
@@ -109,7 +110,7 @@ impl<C: Core + Drop, N: Naming<C::Settings>> LockedCore<C, N> {
         })
     }
 
-    /// Adds what arrived for a stream, and counts its answer in the caller's shares.
+    /// Adds what arrived for a stream, and counts its answer in the caller's shares. It moves into the steps, and a blank one takes its place.
     ///
     /// # Errors
     ///
@@ -119,15 +120,15 @@ impl<C: Core + Drop, N: Naming<C::Settings>> LockedCore<C, N> {
         rt: &R,
         stream: usize,
         bytes: &[u8],
-        datagram: KeptArrival,
+        datagram: &mut KeptArrival,
         mine: &mut Shares<N>,
     ) -> Result<Numbered<Outcome>, HubFault>
         requires read { WasRead C.Settings.says C.Settings.fits N.settings stream bytes.now
-            (taken_view datagram) }
+            (taken_view datagram.old) }
         requires parts { AreSomeParts mine.old }
         // It is of the one life of the log, behind what the caller has seen of it, and is answered as that is.
         ensures added { IfOk result (AddsArrival C.rules N.given stream bytes.now
-            (taken_view datagram) mine.old mine.new) }
+            (taken_view datagram.old) mine.old mine.new) }
         // The shares rise by what is counted, stay below 2^64, and keep their parts.
         ensures counted { IfOk result (λ numbered. HaveCountedOne mine.old mine.new
             numbered.answer) }
@@ -137,8 +138,9 @@ impl<C: Core + Drop, N: Naming<C::Settings>> LockedCore<C, N> {
             ↔ (is_used_up self.old.taken.total self.old.refused.total self.old.configured.total ≡
             true) }
         ensures causes { OnErr result (result ≡ Err HubFault.CountsUsedUp) }
+        ensures moved { OnOk result (taken_view datagram.new ≡ Data 0 0 []) }
         ensures err { OnErr result ((self.new.core.state ≡ self.old.core.state)
-            × AreAsBefore mine.old mine.new) }
+            × AreAsBefore mine.old mine.new × (datagram.new ≡ datagram.old)) }
     {
         self.audit(mine);
         if self.totals.are_used_up() {
@@ -172,18 +174,19 @@ impl<C: Core + Drop, N: Naming<C::Settings>> LockedCore<C, N> {
         rt: &R,
         stream: usize,
         bytes: &[u8],
-        datagram: KeptArrival,
+        datagram: &mut KeptArrival,
         mine: &mut Shares<N>,
     ) -> Numbered<Outcome>
         requires read { WasRead C.Settings.says C.Settings.fits N.settings stream bytes.now
-            (taken_view datagram) }
+            (taken_view datagram.old) }
         requires parts { AreSomeParts mine.old }
         requires free { is_used_up self.old.taken.total self.old.refused.total
             self.old.configured.total ≡ false }
         ensures added { AddsArrival C.rules N.given stream bytes.now
-            (taken_view datagram) mine.old mine.new result }
+            (taken_view datagram.old) mine.old mine.new result }
         ensures counted { HaveCountedOne mine.old mine.new result.answer }
         ensures parts { HasSameParts mine.old mine.new }
+        ensures moved { taken_view datagram.new ≡ Data 0 0 [] }
     {
         let LockedCore {
             core,

@@ -15,7 +15,7 @@ use crate::intake::{Inlet, Intake};
 use crate::ledgers::Ledgers;
 use crate::naming::Naming;
 use crate::shares::Shares;
-use pdc_core::{Core, Reads};
+use pdc_core::{Core, KeptArrival, Reads};
 use pdc_life::Outcome;
 use pdc_log::Front;
 use pdc_ports::{Next, Numbered, Source};
@@ -40,13 +40,14 @@ pub struct Received<'h, N: Ledgers> {
     pub ghost same: { (shares.taken.amount ≡ taken) × (shares.refused.amount ≡ refused) },
 }
 
-/// Reads a datagram, outside the lock, and delivers it.
+/// Reads a datagram, outside the lock, into what is kept here, and delivers it.
 fn hand_in<C: Core + Drop, N: Naming<C::Settings>, R: Wait>(
     rt: &R,
     alloc: Global,
     intake: &Intake<'_, C, N>,
     stream: usize,
     bytes: &[u8],
+    kept: &mut KeptArrival,
     shares: &mut Shares<N>,
 ) -> Result<Numbered<Outcome>, HubFault>
     requires settings { N.settings ≡ Some intake.now.settings.now }
@@ -62,8 +63,8 @@ fn hand_in<C: Core + Drop, N: Naming<C::Settings>, R: Wait>(
     ensures causes { IfErr result IsOfDelivery }
     ensures err { OnErr result (AreAsBefore shares.old shares.new) }
 {
-    match intake.settings.read_kept(alloc, stream, bytes) {
-        Ok(datagram) => intake.hub.deliver(rt, stream, bytes, datagram, shares),
+    match intake.settings.read_into(alloc, stream, bytes, kept) {
+        Ok(()) => intake.hub.deliver(rt, stream, bytes, kept, shares),
         Err(_) => Err(HubFault::NoMemory),
     }
 }
@@ -100,12 +101,14 @@ pub fn receive<'h, C: Core + Drop, N: Naming<C::Settings>, S: Source, R: Wait>(
     let hub = intake.hub;
     let mut shares = shares;
     let mut buffer = buffer;
+    let mut kept = KeptArrival::blank();
     let mut taken = 0u64;
     let mut refused = 0u64;
     for _ in rt.forever() {
         match source.next(buffer.as_mut_slice()) {
             Next::Datagram(len) => {
-                match hand_in(rt, alloc, intake, stream, &buffer[..len], &mut shares) {
+                let bytes = &buffer[..len];
+                match hand_in(rt, alloc, intake, stream, bytes, &mut kept, &mut shares) {
                     Ok(answer) => {
                         match answer.answer {
                             Outcome::Taken => taken += 1,

@@ -7,6 +7,7 @@ ghost use Rattle.pdc_core.specs.KeptArrival.{taken_view};
 ghost use Rattle.pdc_core.specs.declared.kept_arrival.KeptArrival.{KeptArrival as KeptArrivalData};
 ghost use Rattle.pdc_core.specs.declared.step.CoreStep.TheVariants as step;
 ghost use Rattle.pdc_life.specs.Answer.{ToArrive, ToPop, ToTick, pop_answer, tick_answer};
+ghost use Rattle.pdc_life.specs.Arrival.{Data};
 ghost use Rattle.pdc_life.specs.Given.{Given};
 ghost use Rattle.pdc_life.specs.Life.{Entry, changes};
 ghost use Rattle.pdc_hub.specs.Opened.{AreOpened};
@@ -22,6 +23,7 @@ use pdc_memory::Held;
 use pdc_row::DueRow;
 use std::alloc::{AllocError, Global};
 use std::marker::PhantomData;
+use std::mem;
 use std::sync::Wait;
 
 /// A core beside a base from which the steps since lead to it.
@@ -103,31 +105,33 @@ impl<C: Core + Drop, N: Naming<C::Settings>> Replayed<C, N> {
         events.clear();
     }
 
-    /// Answers what arrived for a stream, and keeps the step. Where the list is full, the base is brought up first.
+    /// Answers what arrived for a stream, and keeps the step, into which it moves; a blank one takes its place. Where the list is full, the base
+    /// is brought up first.
     pub fn arrive<R: Wait>(
         &mut self,
         rt: &R,
         front: &mut Front<N>,
         stream: usize,
         bytes: &[u8],
-        taken: KeptArrival,
+        taken: &mut KeptArrival,
     ) -> Outcome
         requires read { WasRead C.Settings.says C.Settings.fits N.settings stream bytes.now
-            (taken_view taken) }
+            (taken_view taken.old) }
         ensures answer { (g : Given) (E : List Entry) → C.stands_for self.old.state g E →
-            result ≡ (C.rules g E stream (taken_view taken)).outcome }
+            result ≡ (C.rules g E stream (taken_view taken.old)).outcome }
         ensures stands { C.Settings.says (C.settings_of self.old.state) stream bytes.now
-            (taken_view taken) →
+            (taken_view taken.old) →
             Follows C.rules (C.stands_for self.old.state) (C.stands_for self.new.state)
-            (ToArrive stream bytes.now (taken_view taken)) }
-        ensures logged { HasLogged (ToArrive stream bytes.now (taken_view taken))
+            (ToArrive stream bytes.now (taken_view taken.old)) }
+        ensures logged { HasLogged (ToArrive stream bytes.now (taken_view taken.old))
             self.old.log.seen.log self.new.log.seen.log front.old front.new }
         ensures counts { C.counts_of self.new.state ≡
             after_answer result (C.counts_of self.old.state) }
         ensures popped { C.popped_of self.new.state ≡ C.popped_of self.old.state }
         ensures event { self.new.events.items ≡ since self.old.limit self.old.events.items ++
-            step.Arrive stream taken ∷ [] }
+            step.Arrive stream taken.old ∷ [] }
         ensures limit { self.new.limit ≡ self.old.limit }
+        ensures moved { taken_view taken.new ≡ Data 0 0 [] }
     {
         self.bring_up();
         let Replayed {
@@ -142,7 +146,7 @@ impl<C: Core + Drop, N: Naming<C::Settings>> Replayed<C, N> {
             &Arriving {
                 stream,
                 bytes,
-                taken: &taken,
+                taken,
             },
         );
         kept(events, state, stream, taken)
@@ -223,24 +227,26 @@ fn kept<C: Core>(
     events: &mut Held<CoreStep>,
     state: &mut C,
     stream: usize,
-    taken: KeptArrival,
+    taken: &mut KeptArrival,
 ) -> Outcome
     requires room { length events.old.items < events.old.capacity }
-    requires fits { C.Settings.fits (C.settings_of state.old) stream (taken_view taken) ≡ true }
+    requires fits { C.Settings.fits (C.settings_of state.old) stream (taken_view taken.old) ≡ true }
     ensures answer { (g : Given) (E : List Entry) → C.stands_for state.old g E →
-        result ≡ (C.rules g E stream (taken_view taken)).outcome }
+        result ≡ (C.rules g E stream (taken_view taken.old)).outcome }
     ensures stands { (bytes : List ℕ) → C.Settings.says (C.settings_of state.old) stream bytes
-        (taken_view taken) →
+        (taken_view taken.old) →
         Follows C.rules (C.stands_for state.old) (C.stands_for state.new)
-        (ToArrive stream bytes (taken_view taken)) }
+        (ToArrive stream bytes (taken_view taken.old)) }
     ensures counts { C.counts_of state.new ≡ after_answer result (C.counts_of state.old) }
     ensures popped { C.popped_of state.new ≡ C.popped_of state.old }
     ensures settings { C.settings_of state.new ≡ C.settings_of state.old }
-    ensures event { events.new.items ≡ events.old.items ++ step.Arrive stream taken ∷ [] }
+    ensures event { events.new.items ≡ events.old.items ++ step.Arrive stream taken.old ∷ [] }
     ensures len { length events.new.items ≡ length events.old.items + 1 }
     ensures capacity { events.new.capacity ≡ events.old.capacity }
+    ensures moved { taken_view taken.new ≡ Data 0 0 [] }
 {
     let place = events.len();
+    let taken = mem::replace(taken, KeptArrival::blank());
     events.push(CoreStep::Arrive { stream, taken });
     let event = events.item(place);
     answered(state, stream, arrival_of(event))

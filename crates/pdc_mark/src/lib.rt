@@ -1,5 +1,4 @@
-//! The stored mark: the start number, the floor and the counts of a concentrator, which must survive every stop (this
-//! profile).
+//! The stored mark: the start number, the floor and the counts of a concentrator, which must survive every stop.
 //!
 //! A start number counts the lives of one concentrator, everything that it published lies at or below the floor, and
 //! for each PMU no configuration count above the stored one was adopted. A concentrator that forgot them could publish

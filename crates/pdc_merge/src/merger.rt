@@ -1,6 +1,8 @@
 //! The merger.
-ghost use Rattle.std.specs.Prelude.{◌≡◌, ◌<◌, ◌∷◌, ℕ, [], IfOk, List, length, OnErr};
+ghost use Rattle.std.specs.Prelude.{◌≡◌, ◌<◌, ◌∷◌, ℕ, [], IfOk, List, length, true, OnErr};
 ghost use Rattle.pdc_core.specs.pdc_memory.Asking.{SomeWasRefused};
+ghost use Rattle.pdc_core.specs.Fits.{fits_merger};
+ghost use Rattle.pdc_core.specs.KeptArrival.{taken_view};
 ghost use Rattle.pdc_align.specs.Align.{given_by};
 ghost use Rattle.pdc_arrival.specs.Counts.{after_answer};
 ghost use Rattle.pdc_life.specs.Answer.{ToArrive, answered};
@@ -16,7 +18,7 @@ use crate::layouts::HeldLayouts;
 use crate::opens::copy_of_merger;
 use pdc_align::{Alignment, Plan, Ticked, append_layout_frame};
 use pdc_arrival::{Arrival, Counts, Reading, arrival_from_node, hear_from_node};
-use pdc_core::Core;
+use pdc_core::{Core, KeptArrival};
 use pdc_frame::Buffer;
 use pdc_life::{MAX_PMUS, MergerSettings, Outcome, lives_are_runs, rows_have_tags};
 use pdc_table::{DueRow, Table};
@@ -134,6 +136,26 @@ impl<T: Table> Merger<T> {
         outcome
     }
 
+    /// Answers what was kept of an arrival. It stands apart, so that data does not pay for an [`Arrival`].
+    #[inline(never)]
+    fn arrive_whole(&mut self, stream: usize, taken: &KeptArrival) -> Outcome
+        requires { fits_merger self.old.settings stream (taken_view taken.now) ≡ true }
+        ensures answer { (g : Given) (E : List Entry) → StandsFor g E self.old →
+            result ≡ (merged_answer g E stream (taken_view taken.now)).outcome }
+        ensures stands { (g : Given) (E : List Entry) (bytes : List ℕ) →
+            Says (OfMerger self.old.settings) stream bytes (taken_view taken.now) →
+            StandsFor g E self.old →
+            StandsFor g (answered merged_answer g E
+            (ToArrive stream bytes (taken_view taken.now)) ∷ E) self.new }
+        ensures counts { self.new.counts ≡ after_answer result self.old.counts }
+        ensures popped { self.new.popped ≡ self.old.popped }
+        ensures settings { self.new.settings ≡ self.old.settings }
+        ensures memory { self.new.memory ≡ self.old.memory }
+    {
+        let arrival = taken.view();
+        self.arrive(stream, &arrival)
+    }
+
     /// How often, at a closing, both nodes had present blocks of a column that differed. Those of node A stay.
     pub fn disagree(&self) -> u64
         ensures { result ≡ self.now.disagreements }
@@ -167,6 +189,18 @@ impl<T: Table> Core for Merger<T> {
         let outcome = answering::answer(&mut self.alignment, &mut self.layouts, stream, arrival);
         self.counts.count(outcome);
         outcome
+    }
+
+    /// Data is answered as it was kept: an [`Arrival`] has room for all sections of a layout, and is made for what else there is.
+    fn arrive_kept(&mut self, stream: usize, taken: &KeptArrival) -> Outcome {
+        match taken {
+            KeptArrival::Data {
+                instant,
+                quality,
+                payload,
+            } => self.arrive_data(stream, *instant, *quality, payload.as_slice()),
+            _ => self.arrive_whole(stream, taken),
+        }
     }
 
     /// Data is answered as it was read: an [`Arrival`] has room for all sections of a layout, and is made for configurations alone.

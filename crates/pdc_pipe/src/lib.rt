@@ -1,5 +1,4 @@
-//! The pipe of a concentrator: published frames go from the aligner through a channel to the sender, and from the sender to a sink (this
-//! profile).
+//! The pipe of a concentrator: published frames go from the aligner through a channel to the sender, and from the sender to a sink.
 //!
 //! The first type to look at is [`Message`], which keeps in its type what it is; [`channel`] makes a channel with its two ends, and
 //! [`send_out`] is the sender, which hands each frame to an [`Outlet`] with what it is.

@@ -1,5 +1,4 @@
-//! The plain program of a life, of a node or of the merger: steps in, answers, rows, layout and published frames out (this
-//! profile).
+//! The plain program of a life, of a node or of the merger: steps in, answers, rows, layout and published frames out.
 //!
 //! It is slow, and meant to be read: each function is one definition of pdc_life, asked of the whole list of the steps, and its
 //! contract says so. Node and merger differ in what bytes say and in what an arrival is answered; all else is one program. The

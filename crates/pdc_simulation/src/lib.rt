@@ -1,5 +1,4 @@
-//! A simulated PMU as a program: it sends one configuration, and then a data frame for each instant as the clock reaches it (this
-//! profile).
+//! A simulated PMU as a program: it sends one configuration, and then a data frame for each instant as the clock reaches it.
 //!
 //! The call to look at is [`simulate`]: its frames go to UDP ports, and to up to four consumers that ask for them over TCP.
 //! [`simulate_from`] and [`simulate_into`] are the same over any sink, and promise what a sink that tells what it took has then: where all

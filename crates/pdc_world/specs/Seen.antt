@@ -1,5 +1,4 @@
--- What a reader of the streams sees of a world: the settings, the frames that were ever sent, and the rows that were published (this
--- profile).
+-- What a reader of the streams sees of a world: the settings, the frames that were ever sent, and the rows that were published.
 use Rattle.std.specs.Prelude.{[], ◌∷◌, filter, List, map, ℕ}
 use Rattle.pdc_row.specs.Rising.{Rises}
 use Rattle.pdc_history.specs.{Seen.{Seen}, World.{is_same, Who}}

@@ -84,12 +84,12 @@ fn arrive<C: Core + Drop, N: Naming<C::Settings>, R: Wait + Clock>(
     let Next::Datagram(len) = source.next(buffer.as_mut_slice()) else {
         return None;
     };
-    let Ok(datagram) = lived.settings.read_kept(alloc, stream, &buffer[..len]) else {
+    let Ok(mut datagram) = lived.settings.read_kept(alloc, stream, &buffer[..len]) else {
         return None;
     };
     let Ok(answer) = lived
         .hub
-        .deliver(rt, stream, &buffer[..len], datagram, shares)
+        .deliver(rt, stream, &buffer[..len], &mut datagram, shares)
     else {
         return None;
     };

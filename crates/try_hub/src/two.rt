@@ -51,11 +51,16 @@ pub fn deliver<C: Core + Drop, N: Naming<C::Settings>, R: Wait>(
     ensures settings { C.settings_of mine.new.bare ≡ C.settings_of mine.old.bare }
     ensures fit { IsFit mine.new N.top.parts N.turns.parts }
 {
-    let Ok(datagram) = mine.bare.settings().read_kept(alloc, stream, bytes) else {
+    let Ok(mut datagram) = mine.bare.settings().read_kept(alloc, stream, bytes) else {
         return None;
     };
-    let Ok(Numbered { step, answer }) = hub.deliver(rt, stream, bytes, datagram, &mut mine.shares)
-    else {
+    let Ok(Numbered { step, answer }) = hub.deliver(
+        rt,
+        stream,
+        bytes,
+        &mut datagram,
+        &mut mine.shares,
+    ) else {
         return None;
     };
     let bare_answer = mine.bare.put_datagram(stream, bytes);

@@ -92,7 +92,7 @@ fn call<N: Naming<Settings>, R: Wait>(
 {
     match called {
         Called::Deliver => match settings.read_kept(alloc, 0, &DATA_11) {
-            Ok(kept) => told(hub.deliver(rt, 0, &DATA_11, kept, &mut mine.shares)),
+            Ok(mut kept) => told(hub.deliver(rt, 0, &DATA_11, &mut kept, &mut mine.shares)),
             Err(_) => NO_MEMORY,
         },
         Called::Tick => {
