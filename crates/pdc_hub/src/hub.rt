@@ -4,7 +4,6 @@ ghost use Rattle.std.specs.Prelude.{false, true};
 ghost use Rattle.pdc_core.specs.KeptArrival.{taken_view};
 ghost use Rattle.pdc_core.specs.Step.{ticked_of};
 ghost use Rattle.pdc_life.specs.Answer.{waiting_counts};
-ghost use Rattle.pdc_life.specs.Arrival.{Data};
 ghost use Rattle.pdc_life.specs.Row.{is_whole};
 ghost use Rattle.pdc_ports.specs.pdc_arrival.Counts.{counts_after};
 ghost use Rattle.pdc_hub.specs.Adding.{AddsArrival, AddsPop, AddsTick, IsLayoutBehind};
@@ -116,8 +115,8 @@ impl<C: Core + Drop, N: Naming<C::Settings>> Hub<C, N> {
     }
 
     /// Adds what arrived for a stream, and counts its answer in the caller's shares. The answer is that of the one life, behind all that the
-    /// caller had seen of it, and bears the number of the step, given under the lock: how many steps that life had. What arrived moves into
-    /// the steps, and a blank one takes its place.
+    /// caller had seen of it, and bears the number of the step, given under the lock: how many steps that life had. What is left of what
+    /// arrived is to be written over.
     ///
     /// # Errors
     ///
@@ -139,7 +138,6 @@ impl<C: Core + Drop, N: Naming<C::Settings>> Hub<C, N> {
             numbered.answer) }
         ensures most { (mine.new.taken.amount < 2 ^ 64) × (mine.new.refused.amount < 2 ^ 64) }
         ensures parts { HasSameParts mine.old mine.new }
-        ensures moved { OnOk result (taken_view datagram.new ≡ Data 0 0 []) }
         ensures causes { OnErr result (result ≡ Err HubFault.CountsUsedUp) }
         ensures err { OnErr result (AreAsBefore mine.old mine.new × (datagram.new ≡ datagram.old)) }
     {

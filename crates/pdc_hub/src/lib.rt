@@ -18,6 +18,7 @@ mod pops;
 mod receiver;
 mod replayed;
 mod shares;
+mod steps;
 mod totals;
 
 pub use fault::HubFault;
@@ -30,3 +31,4 @@ pub use pops::Pops;
 pub use receiver::{Received, receive};
 pub use replayed::Replayed;
 pub use shares::{Blanks, Books, Shares};
+pub use steps::Steps;

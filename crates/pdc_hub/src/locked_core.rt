@@ -3,7 +3,6 @@ ghost use Rattle.std.specs.Prelude.{◌≡◌, ◌+◌, ◌^◌, ◌<◌, ◌≤
 ghost use Rattle.std.specs.Prelude.{OnOk, Some, [], false, true};
 ghost use Rattle.pdc_core.specs.KeptArrival.{taken_view};
 ghost use Rattle.pdc_core.specs.Step.{ticked_of};
-ghost use Rattle.pdc_life.specs.Arrival.{Data};
 ghost use Rattle.pdc_hub.specs.Adding.{AddsArrival, AddsPop, AddsTick, IsLayoutBehind};
 ghost use Rattle.pdc_hub.specs.Counted.{AreAsBefore, AreSomeParts, HasSameAmounts, HasSameParts};
 ghost use Rattle.pdc_hub.specs.Counted.{HaveCountedOne};
@@ -110,7 +109,7 @@ impl<C: Core + Drop, N: Naming<C::Settings>> LockedCore<C, N> {
         })
     }
 
-    /// Adds what arrived for a stream, and counts its answer in the caller's shares. It moves into the steps, and a blank one takes its place.
+    /// Adds what arrived for a stream, and counts its answer in the caller's shares. What is left of it is to be written over.
     ///
     /// # Errors
     ///
@@ -138,7 +137,6 @@ impl<C: Core + Drop, N: Naming<C::Settings>> LockedCore<C, N> {
             ↔ (is_used_up self.old.taken.total self.old.refused.total self.old.configured.total ≡
             true) }
         ensures causes { OnErr result (result ≡ Err HubFault.CountsUsedUp) }
-        ensures moved { OnOk result (taken_view datagram.new ≡ Data 0 0 []) }
         ensures err { OnErr result ((self.new.core.state ≡ self.old.core.state)
             × AreAsBefore mine.old mine.new × (datagram.new ≡ datagram.old)) }
     {
@@ -186,7 +184,6 @@ impl<C: Core + Drop, N: Naming<C::Settings>> LockedCore<C, N> {
             (taken_view datagram.old) mine.old mine.new result }
         ensures counted { HaveCountedOne mine.old mine.new result.answer }
         ensures parts { HasSameParts mine.old mine.new }
-        ensures moved { taken_view datagram.new ≡ Data 0 0 [] }
     {
         let LockedCore {
             core,

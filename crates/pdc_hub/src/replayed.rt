@@ -7,7 +7,6 @@ ghost use Rattle.pdc_core.specs.KeptArrival.{taken_view};
 ghost use Rattle.pdc_core.specs.declared.kept_arrival.KeptArrival.{KeptArrival as KeptArrivalData};
 ghost use Rattle.pdc_core.specs.declared.step.CoreStep.TheVariants as step;
 ghost use Rattle.pdc_life.specs.Answer.{ToArrive, ToPop, ToTick, pop_answer, tick_answer};
-ghost use Rattle.pdc_life.specs.Arrival.{Data};
 ghost use Rattle.pdc_life.specs.Given.{Given};
 ghost use Rattle.pdc_life.specs.Life.{Entry, changes};
 ghost use Rattle.pdc_hub.specs.Opened.{AreOpened};
@@ -16,14 +15,13 @@ ghost use Rattle.pdc_hub.specs.Replay.{Follows, HasLogged, Records, WasRead, sin
 ghost use Rattle.pdc_memory.specs.Asking.{WasRefused};
 
 use crate::naming::Naming;
+use crate::steps::Steps;
 use pdc_core::{Core, CoreStep, KeptArrival, Ticked};
 use pdc_life::{MAX_PMUS, Outcome};
 use pdc_log::{Add, Arriving, Front, Log, Popping, Ticking};
-use pdc_memory::Held;
 use pdc_row::DueRow;
 use std::alloc::{AllocError, Global};
 use std::marker::PhantomData;
-use std::mem;
 use std::sync::Wait;
 
 /// A core beside a base from which the steps since lead to it.
@@ -33,7 +31,7 @@ pub struct Replayed<C: Core + Drop, N: Naming<C::Settings>> {
     /// All steps of its life.
     pub log: Log,
     /// The steps since, with room for as many as the limit.
-    pub events: Held<CoreStep>,
+    pub events: Steps,
     pub state: C,
     pub limit: usize,
     of: PhantomData<N>,
@@ -66,7 +64,7 @@ impl<C: Core + Drop, N: Naming<C::Settings>> Replayed<C, N> {
             × (made.events.items ≡ []) × (made.limit ≡ limit) × (made.log ≡ log)) }
         ensures denied { OnErr result (WasRefused limit) }
     {
-        let events = Held::with_capacity(alloc, limit)?;
+        let events = Steps::with_capacity(alloc, limit)?;
         Ok(Replayed {
             base,
             log,
@@ -105,7 +103,7 @@ impl<C: Core + Drop, N: Naming<C::Settings>> Replayed<C, N> {
         events.clear();
     }
 
-    /// Answers what arrived for a stream, and keeps the step, into which it moves; a blank one takes its place. Where the list is full, the base
+    /// Answers what arrived for a stream, and keeps the step. What is left of what arrived is to be written over. Where the list is full, the base
     /// is brought up first.
     pub fn arrive<R: Wait>(
         &mut self,
@@ -131,7 +129,6 @@ impl<C: Core + Drop, N: Naming<C::Settings>> Replayed<C, N> {
         ensures event { self.new.events.items ≡ since self.old.limit self.old.events.items ++
             step.Arrive stream taken.old ∷ [] }
         ensures limit { self.new.limit ≡ self.old.limit }
-        ensures moved { taken_view taken.new ≡ Data 0 0 [] }
     {
         self.bring_up();
         let Replayed {
@@ -221,10 +218,10 @@ impl<C: Core + Drop, N: Naming<C::Settings>> Replayed<C, N> {
     }
 }
 
-/// Keeps what arrived as the last step, and answers it where it lies: so it is moved once.
+/// Keeps what arrived as the last step, and answers it where it lies then.
 #[inline(always)]
 fn kept<C: Core>(
-    events: &mut Held<CoreStep>,
+    events: &mut Steps,
     state: &mut C,
     stream: usize,
     taken: &mut KeptArrival,
@@ -243,11 +240,9 @@ fn kept<C: Core>(
     ensures event { events.new.items ≡ events.old.items ++ step.Arrive stream taken.old ∷ [] }
     ensures len { length events.new.items ≡ length events.old.items + 1 }
     ensures capacity { events.new.capacity ≡ events.old.capacity }
-    ensures moved { taken_view taken.new ≡ Data 0 0 [] }
 {
     let place = events.len();
-    let taken = mem::replace(taken, KeptArrival::blank());
-    events.push(CoreStep::Arrive { stream, taken });
+    events.arrive(stream, taken);
     let event = events.item(place);
     answered(state, stream, arrival_of(event))
 }
