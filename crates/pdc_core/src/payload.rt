@@ -4,6 +4,7 @@ ghost use Rattle.pdc_memory.specs.Asking.{WasRefused};
 ghost use Rattle.pdc_core.specs.KeptArrival.{bytes_of};
 ghost use Rattle.pdc_core.specs.declared.payload.TheConstants.{SHORT_PAYLOAD};
 
+use pdc_align::copy_block;
 use pdc_memory::Held;
 use std::alloc::{AllocError, Global};
 use std::fmt;
@@ -49,7 +50,7 @@ impl ShortPayload {
         requires { length bytes.now ≤ SHORT_PAYLOAD }
         ensures { self.new ≡ bytes.now }
     {
-        self.bytes[..bytes.len()].copy_from_slice(bytes);
+        copy_block(&mut self.bytes[..bytes.len()], bytes);
         self.len = bytes.len();
     }
 

@@ -28,7 +28,8 @@ pub use open_row::{OpenRow, Places};
 pub use outcome::PutOutcome;
 pub use parts::{Cut, Part, Room, cut_bodies, new_room};
 pub use pdc_row::{
-    Block, Body, CopyFrom, DueRow, MAX_WINDOW, MIN_WINDOW, RowBlocks, copy_each, numbers_rise,
+    Block, Body, CopyFrom, DueRow, MAX_WINDOW, MIN_WINDOW, RowBlocks, copy_block, copy_each,
+    numbers_rise,
 };
 pub use row_blocks::WORST_QUALITY;
 pub use row_layout::RowLayout;

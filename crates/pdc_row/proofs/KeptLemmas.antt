@@ -153,10 +153,6 @@ words_back (w ∷ words) fits =
     let same : 256 * (w / 256 % 256) + w % 256 ≡ w = omega (arith, fits 0) in
     rw same (ap (λ (ws : List ℕ). w ∷ ws) (words_back words (λ i. fits (suc i))))
 
-pub words_len : (words : List ℕ) → length (bytes_of_words words) ≡ 2 * length words
-words_len [] = refl
-words_len (w ∷ words) = omega (arith, words_len words)
-
 -- ---- bytes and words are the same together
 
 both_or_one : (a b c : Bool) → (a ≡ true → b ≡ true → c ≡ true) → (c ≡ true → (a ≡ true) × (b ≡ true)) → (a && b) ≡ c

@@ -4,6 +4,7 @@ ghost use Rattle.std.specs.Cmp.Lexicographic.{pointwise};
 ghost use Rattle.pdc_block.specs.Block.{body_len_of, words_in};
 ghost use Rattle.pdc_row.specs.declared.limits.TheConstants.{MAX_PMUS};
 
+use crate::block_copy::copy_block;
 use crate::offered::{MAX_BODY_LEN, are_bytes};
 use crate::present::has_data;
 use crate::row_blocks::RowBlocks;
@@ -152,6 +153,6 @@ impl CopyFrom for Cell {
         self.has_data = other.has_data;
         self.len = other.len;
         let bytes = other.bytes();
-        self.bytes[..bytes.len()].copy_from_slice(bytes);
+        copy_block(&mut self.bytes[..bytes.len()], bytes);
     }
 }

@@ -8,6 +8,7 @@
 //! the frame of a row, and that of a layout, is the one that the definitions spell.
 #![tactic(auto)]
 
+mod block_copy;
 mod cell;
 mod copied;
 mod due_row;
@@ -23,6 +24,7 @@ mod row_frame;
 mod section;
 mod stamp;
 
+pub use block_copy::copy_block;
 pub use cell::Cell;
 pub use copied::{CopyFrom, copy_each};
 pub use due_row::DueRow;

@@ -5,6 +5,7 @@ ghost use Rattle.pdc_block.specs.Block.{body_len_of, words_in};
 ghost use Rattle.pdc_block.specs.pdc_cfg.pdc_frame.Bytes.{AreBytes};
 ghost use Rattle.pdc_row.specs.CellView.{BlockView};
 
+use crate::block_copy::copy_block;
 use arrayvec::ArrayVec;
 use pdc_block::{Block, Body, MAX_WORDS, Shape, append_words};
 
@@ -78,7 +79,7 @@ impl Offered for Body<'_> {
 
     #[inline(always)]
     fn write_bytes(&self, bytes: &mut [u8]) {
-        bytes.copy_from_slice(self.bytes);
+        copy_block(bytes, self.bytes);
     }
 
     #[inline(always)]

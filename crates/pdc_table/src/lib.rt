@@ -27,8 +27,8 @@ pub use laws::{
 };
 pub use pdc_open_row::{
     Blocks, CopyFrom, DueRow, Listed, MAX_COLUMNS, MAX_LANES, MAX_WINDOW, MIN_WINDOW, OpenRow,
-    Part, Places, PutOutcome, Room, RowBlocks, RowLayout, WaitRule, copy_each, copy_items, falses,
-    lane_of, new_room, stream_count,
+    Part, Places, PutOutcome, Room, RowBlocks, RowLayout, WaitRule, copy_block, copy_each,
+    copy_items, falses, lane_of, new_room, stream_count,
 };
 pub use ring_table::RingTable;
 pub use spare::spare_row;
