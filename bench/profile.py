@@ -14,7 +14,7 @@ LINES = (
     ("write data | 1/0/0", 2, "plain, as ours", ("write data, 1/0/0",)),
     ("1/0/0 | 64", 2, "plain, as ours", ("a node, 1/0/0, window 64", "the merger, 1/0/0, window 64")),
     ("8/4/1 | 64", 2, "plain, as ours", ("a node, 8/4/1, window 64", "the merger, 8/4/1, window 64")),
-    ("32/32/8 | 64", 2, "plain, as ours", ("the merger, 32/32/8, window 64",)),
+    ("32/32/8 | 64", 2, "plain, as ours", ("a node, 32/32/8, window 64", "the merger, 32/32/8, window 64")),
     ("8/4/1, one datagram in ten refused", 2, "plain, as ours", ("a node, 8/4/1, one datagram in ten refused",)),
     ("8/4/1, one PMU in four absent", 2, "plain, as ours", ("a node, 8/4/1, one PMU in four absent",)),
     ("16 puts, 4 ticks", 1, "plain ring", ("alignment, 48 rows open",)),
