@@ -1,9 +1,12 @@
 pub mod Alike
 pub mod Blank
 pub mod CutParts
+pub mod HeldOnce
 pub mod OpenRowParts
 pub mod RowSteps
 pub mod TakenParts
+pub mod WholeFrames
+pub mod WholeRows
 pub use Rattle.pdc_row.proofs as pdc_row
 pub use Rattle.pdc_row.proofs.pdc_block
 pub use Rattle.pdc_row.proofs.pdc_cfg

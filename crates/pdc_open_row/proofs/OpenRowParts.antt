@@ -1,26 +1,27 @@
 -- The columns of an open row whose flags and cells stand in lists of their own.
-use Rattle.std.proofs.Common.{◌≡◌, true≢false, ℕ, ◌+◌, ◌<◌, ◌≤◌, Bool, true, false, cond, drop, eqb, take, ◌||◌, List, [], ◌∷◌, length, get_or, set, replicate, map, None, Some, Option, append-nil, ap, subst, sym, refl, ◌∙◌, arith, zero, suc}
+use Rattle.std.proofs.Common.{◌≡◌, true≢false, not, nat_eq, ℕ, ◌+◌, ◌<◌, ◌≤◌, Bool, true, false, cond, drop, eqb, take, ◌||◌, List, [], ◌∷◌, length, get_or, set, replicate, map, None, Some, Option, append-nil, ap, subst, sym, refl, ◌∙◌, arith, zero, suc}
 use Rattle.std.specs.List.{refill}
 use Rattle.std.specs.Prelude.{is_some}
-use Rattle.std.proofs.lemmas.Bool.{or_parts}
-use Rattle.std.proofs.lemmas.List.{drop_all, length-map, length-replicate, length-set, take_all}
+use Rattle.std.specs.Cmp.Lexicographic.{pointwise}
+use Rattle.std.proofs.lemmas.Bool.{eq-eqb, or_parts}
+use Rattle.std.proofs.lemmas.List.{get_or_default}
 use Rattle.pdc_row.specs.pdc_cfg.declared.shape.Shape.{Shape}
-use Rattle.pdc_row.specs.CellView.{CellView}
+use Rattle.pdc_row.specs.CellView.{BlockView, CellView, is_present, same_block}
 use Rattle.pdc_row.specs.Chosen.{present_of}
 use Rattle.pdc_open_row.specs.Chosen.{are_different, disagreement_at, disagreements_of}
-use Rattle.pdc_open_row.specs.OpenRowParts.{column_of, columns_of, nothing, second_of, without_lane}
+use Rattle.pdc_open_row.specs.OpenRowParts.{block_of_second, column_of, columns_of, nothing, without_lane}
 use Rattle.pdc_open_row.specs.Taking.{any_second, with_cell, with_cells}
 use Rattle.pdc_open_row.specs.Views.{ColumnView, empty_column, kept}
 use Rattle.pdc_open_row.specs.declared.column.Held.{Held}
 
-pub columns_count : (hs : List Held) (fs ss : List CellView) → length hs ≤ length fs → length hs ≤ length ss → length (columns_of hs fs ss) ≡ length hs
+pub columns_count : (hs : List Held) (fs ss : List BlockView) → length hs ≤ length fs → length hs ≤ length ss → length (columns_of hs fs ss) ≡ length hs
 columns_count [] fs ss h k = refl
 columns_count (x ∷ hs) [] ss h k = absurd (omega arith)
 columns_count (x ∷ hs) (f ∷ fs) [] h k = absurd (omega arith)
 columns_count (x ∷ hs) (f ∷ fs) (s ∷ ss) h k = ap suc (columns_count hs fs ss (omega arith) (omega arith))
 
 -- one column
-pub column_at : (hs : List Held) (fs ss : List CellView) (i : ℕ) (d : ColumnView) (x : Held) (f s : CellView) → i < length hs → length hs ≤ length fs → length hs ≤ length ss → get_or (columns_of hs fs ss) i d ≡ column_of (get_or hs i x) (get_or fs i f) (get_or ss i s)
+pub column_at : (hs : List Held) (fs ss : List BlockView) (i : ℕ) (d : ColumnView) (x : Held) (f s : BlockView) → i < length hs → length hs ≤ length fs → length hs ≤ length ss → get_or (columns_of hs fs ss) i d ≡ column_of (get_or hs i x) (get_or fs i f) (get_or ss i s)
 column_at [] fs ss i d x f s l h k = absurd (omega arith)
 column_at (y ∷ hs) [] ss i d x f s l h k = absurd (omega arith)
 column_at (y ∷ hs) (g ∷ fs) [] i d x f s l h k = absurd (omega arith)
@@ -28,7 +29,7 @@ column_at (y ∷ hs) (g ∷ fs) (t ∷ ss) zero d x f s l h k = refl
 column_at (y ∷ hs) (g ∷ fs) (t ∷ ss) (suc i) d x f s l h k = column_at hs fs ss i d x f s (omega arith) (omega arith) (omega arith)
 
 -- past the last column
-pub column_past : (hs : List Held) (fs ss : List CellView) (i : ℕ) (d : ColumnView) → length hs ≤ i → get_or (columns_of hs fs ss) i d ≡ d
+pub column_past : (hs : List Held) (fs ss : List BlockView) (i : ℕ) (d : ColumnView) → length hs ≤ i → get_or (columns_of hs fs ss) i d ≡ d
 column_past [] fs ss i d l = refl
 column_past (y ∷ hs) [] ss i d l = refl
 column_past (y ∷ hs) (g ∷ fs) [] i d l = refl
@@ -36,7 +37,7 @@ column_past (y ∷ hs) (g ∷ fs) (t ∷ ss) zero d l = absurd (omega arith)
 column_past (y ∷ hs) (g ∷ fs) (t ∷ ss) (suc i) d l = column_past hs fs ss i d (omega arith)
 
 -- what is held of a column is written, and its cells
-pub column_written : (hs : List Held) (fs ss : List CellView) (i : ℕ) (x : Held) (f s : CellView) → i < length hs → length hs ≤ length fs → length hs ≤ length ss → columns_of (set hs i x) (set fs i f) (set ss i s) ≡ set (columns_of hs fs ss) i (column_of x f s)
+pub column_written : (hs : List Held) (fs ss : List BlockView) (i : ℕ) (x : Held) (f s : BlockView) → i < length hs → length hs ≤ length fs → length hs ≤ length ss → columns_of (set hs i x) (set fs i f) (set ss i s) ≡ set (columns_of hs fs ss) i (column_of x f s)
 column_written [] fs ss i x f s l h k = absurd (omega arith)
 column_written (y ∷ hs) [] ss i x f s l h k = absurd (omega arith)
 column_written (y ∷ hs) (g ∷ fs) [] i x f s l h k = absurd (omega arith)
@@ -44,7 +45,7 @@ column_written (y ∷ hs) (g ∷ fs) (t ∷ ss) zero x f s l h k = refl
 column_written (y ∷ hs) (g ∷ fs) (t ∷ ss) (suc i) x f s l h k = ap (λ cs. column_of y g t ∷ cs) (column_written hs fs ss i x f s (omega arith) (omega arith) (omega arith))
 
 -- a column is emptied
-pub column_emptied : (hs : List Held) (fs ss : List CellView) (i : ℕ) → i < length hs → length hs ≤ length fs → length hs ≤ length ss → columns_of (set hs i nothing) fs ss ≡ set (columns_of hs fs ss) i empty_column
+pub column_emptied : (hs : List Held) (fs ss : List BlockView) (i : ℕ) → i < length hs → length hs ≤ length fs → length hs ≤ length ss → columns_of (set hs i nothing) fs ss ≡ set (columns_of hs fs ss) i empty_column
 column_emptied [] fs ss i l h k = absurd (omega arith)
 column_emptied (y ∷ hs) [] ss i l h k = absurd (omega arith)
 column_emptied (y ∷ hs) (g ∷ fs) [] i l h k = absurd (omega arith)
@@ -52,87 +53,72 @@ column_emptied (y ∷ hs) (g ∷ fs) (t ∷ ss) zero l h k = refl
 column_emptied (y ∷ hs) (g ∷ fs) (t ∷ ss) (suc i) l h k = ap (λ cs. column_of y g t ∷ cs) (column_emptied hs fs ss i (omega arith) (omega arith) (omega arith))
 
 -- all columns are empty
-pub columns_emptied : (n : ℕ) (fs ss : List CellView) → n ≤ length fs → n ≤ length ss → columns_of (replicate n nothing) fs ss ≡ replicate n empty_column
+pub columns_emptied : (n : ℕ) (fs ss : List BlockView) → n ≤ length fs → n ≤ length ss → columns_of (replicate n nothing) fs ss ≡ replicate n empty_column
 columns_emptied zero fs ss h k = refl
 columns_emptied (suc n) [] ss h k = absurd (omega arith)
 columns_emptied (suc n) (f ∷ fs) [] h k = absurd (omega arith)
 columns_emptied (suc n) (f ∷ fs) (s ∷ ss) h k = ap (λ cs. empty_column ∷ cs) (columns_emptied n fs ss (omega arith) (omega arith))
 
-lane_emptied_at : (is_first : Bool) (x : Held) (f s : CellView) → column_of (cond is_first (record x { first = false }) (record x { second = false })) f s ≡ cond is_first (record (column_of x f s) { first = None }) (record (column_of x f s) { second = None })
+lane_emptied_at : (is_first : Bool) (x : Held) (f s : BlockView) → column_of (cond is_first (record x { first = false }) (record x { second = false })) f s ≡ cond is_first (record (column_of x f s) { first = None }) (record (column_of x f s) { second = None })
 lane_emptied_at true x f s = refl
 lane_emptied_at false x f s = refl
 
 -- a lane of each column is emptied
-pub lane_emptied : (lane : ℕ) (hs : List Held) (fs ss : List CellView) → columns_of (map (without_lane lane) hs) fs ss ≡ map (with_cell lane None) (columns_of hs fs ss)
+pub lane_emptied : (lane : ℕ) (hs : List Held) (fs ss : List BlockView) → columns_of (map (without_lane lane) hs) fs ss ≡ map (with_cell lane None) (columns_of hs fs ss)
 lane_emptied lane [] fs ss = refl
 lane_emptied lane (x ∷ hs) [] ss = refl
 lane_emptied lane (x ∷ hs) (f ∷ fs) [] = refl
 lane_emptied lane (x ∷ hs) (f ∷ fs) (s ∷ ss) = rw (lane_emptied_at (eqb lane 0) x f s, lane_emptied lane hs fs ss) refl
 
+-- what stands at a place does so whatever stands past the end
+own : {X : Type 0} → (xs : List X) (i : ℕ) (d : X) → i < length xs → get_or xs i d ≡ get_or xs i (get_or xs i d)
+own xs i d l = get_or_default xs i d (get_or xs i d) l
+
 -- a cell is put into a column
-pub column_put : (hs : List Held) (fs ss : List CellView) (i lane : ℕ) (cell : Option CellView) (x y : Held) (f s g t : CellView) → i < length hs → length hs ≤ length fs → length hs ≤ length ss → column_of y g t ≡ with_cell lane cell (column_of (get_or hs i x) (get_or fs i f) (get_or ss i s)) → columns_of (set hs i y) (set fs i g) (set ss i t) ≡ set (columns_of hs fs ss) i (with_cell lane cell (get_or (columns_of hs fs ss) i empty_column))
+pub column_put : (hs : List Held) (fs ss : List BlockView) (i lane : ℕ) (cell : Option CellView) (x y : Held) (f s g t : BlockView) → i < length hs → length hs ≤ length fs → length hs ≤ length ss → column_of y g t ≡ with_cell lane cell (column_of (get_or hs i x) (get_or fs i f) (get_or ss i s)) → columns_of (set hs i y) (set fs i g) (set ss i t) ≡ set (columns_of hs fs ss) i (with_cell lane cell (get_or (columns_of hs fs ss) i empty_column))
 column_put hs fs ss i lane cell x y f s g t l h k p =
     column_written hs fs ss i y g t l h k
     ∙ ap (λ c. set (columns_of hs fs ss) i c) (p ∙ ap (with_cell lane cell) (sym (column_at hs fs ss i empty_column x f s l h k)))
 
 -- how many columns there are
-pub columns_seen : (columns : List ColumnView) (hs : List Held) (fs ss : List CellView) → columns_of hs fs ss ≡ columns → length hs ≤ length fs → length hs ≤ length ss → length columns ≡ length hs
+pub columns_seen : (columns : List ColumnView) (hs : List Held) (fs ss : List BlockView) → columns_of hs fs ss ≡ columns → length hs ≤ length fs → length hs ≤ length ss → length columns ≡ length hs
 columns_seen columns hs fs ss e h k = ap length (sym e) ∙ columns_count hs fs ss h k
 
--- as many again, in place of those that were there
-rewritten : {X : Type 0} → (hs ws : List X) → length ws ≡ length hs → refill (length hs) hs ws ≡ ws
-rewritten hs ws k = rw (drop_all (length ws) hs (omega arith), append-nil ws) (take_all (length hs) ws (omega arith))
+-- a lane of each column, or all of each, is emptied
+pub lane_dropped : (columns : List ColumnView) (lane : ℕ) (hs ws : List Held) (fs ss : List BlockView) → columns_of hs fs ss ≡ columns → ws ≡ map (without_lane lane) hs → columns_of ws fs ss ≡ map (with_cell lane None) columns
+lane_dropped columns lane hs ws fs ss e k = ap (λ xs. columns_of xs fs ss) k ∙ lane_emptied lane hs fs ss ∙ ap (map (with_cell lane None)) e
 
--- one of those that are lent is written over
-pub one_rewritten : {X : Type 0} → (hs lent : List X) (i : ℕ) (x : X) → lent ≡ hs → refill (length hs) hs (set lent i x) ≡ set hs i x
-one_rewritten hs lent i x e = ap (λ ws. refill (length hs) hs (set ws i x)) e ∙ rewritten hs (set hs i x) (length-set hs i x)
+pub all_dropped : (columns : List ColumnView) (hs ws : List Held) (fs ss : List BlockView) → columns_of hs fs ss ≡ columns → ws ≡ replicate (length hs) nothing → length fs ≡ length hs → length ss ≡ length hs → columns_of ws fs ss ≡ replicate (length columns) empty_column
+all_dropped columns hs ws fs ss e k h m =
+    ap (λ xs. columns_of xs fs ss) k
+    ∙ columns_emptied (length hs) fs ss (omega (arith, h)) (omega (arith, m))
+    ∙ ap (λ n. replicate n empty_column) (sym (columns_seen columns hs fs ss e (omega (arith, h)) (omega (arith, m))))
 
--- the same in a row: what is lent is written over
-pub one_dropped : (hs lent : List Held) (fs ss : List CellView) (i : ℕ) → lent ≡ hs → i < length hs → length hs ≤ length fs → length hs ≤ length ss → columns_of (refill (length hs) hs (set lent i nothing)) fs ss ≡ set (columns_of hs fs ss) i empty_column
-one_dropped hs lent fs ss i e l h k =
-    ap (λ ws. columns_of (refill (length hs) hs (set ws i nothing)) fs ss) e
-    ∙ ap (λ ws. columns_of ws fs ss) (rewritten hs (set hs i nothing) (length-set hs i nothing))
-    ∙ column_emptied hs fs ss i l h k
+pub one_dropped : (columns : List ColumnView) (hs ws : List Held) (fs ss : List BlockView) (i : ℕ) → columns_of hs fs ss ≡ columns → ws ≡ set hs i nothing → i < length hs → length fs ≡ length hs → length ss ≡ length hs → columns_of ws fs ss ≡ set columns i empty_column
+one_dropped columns hs ws fs ss i e k l h m =
+    ap (λ xs. columns_of xs fs ss) k ∙ column_emptied hs fs ss i l (omega (arith, h)) (omega (arith, m)) ∙ ap (λ cs. set cs i empty_column) e
 
-pub lane_rewritten : (lane : ℕ) (hs lent ws : List Held) → lent ≡ hs → ws ≡ map (without_lane lane) lent → refill (length hs) hs ws ≡ map (without_lane lane) hs
-lane_rewritten lane hs lent ws e k =
-    ap (λ xs. refill (length hs) hs xs) (k ∙ ap (map (without_lane lane)) e)
-    ∙ rewritten hs (map (without_lane lane) hs) (length-map hs (without_lane lane))
-
-pub lane_dropped : (lane : ℕ) (hs lent ws : List Held) (fs ss : List CellView) → lent ≡ hs → ws ≡ map (without_lane lane) lent → columns_of (refill (length hs) hs ws) fs ss ≡ map (with_cell lane None) (columns_of hs fs ss)
-lane_dropped lane hs lent ws fs ss e k =
-    ap (λ xs. columns_of xs fs ss) (lane_rewritten lane hs lent ws e k)
-    ∙ lane_emptied lane hs fs ss
-
--- all that are lent are written over
-pub all_rewritten : {X : Type 0} → (hs lent ws : List X) (x : X) → lent ≡ hs → ws ≡ replicate (length lent) x → refill (length hs) hs ws ≡ replicate (length hs) x
-all_rewritten hs lent ws x e k =
-    ap (λ xs. refill (length hs) hs xs) (k ∙ ap (λ xs. replicate (length xs) x) e)
-    ∙ rewritten hs (replicate (length hs) x) (length-replicate (length hs) x)
-
-pub all_dropped : (hs lent ws : List Held) (fs ss : List CellView) → lent ≡ hs → ws ≡ replicate (length lent) nothing → length hs ≤ length fs → length hs ≤ length ss → columns_of (refill (length hs) hs ws) fs ss ≡ replicate (length (columns_of hs fs ss)) empty_column
-all_dropped hs lent ws fs ss e k h m =
-    ap (λ xs. columns_of xs fs ss) (all_rewritten hs lent ws nothing e k)
-    ∙ columns_emptied (length hs) fs ss h m
-    ∙ ap (λ n. replicate n empty_column) (sym (columns_count hs fs ss h m))
-
--- a cell is put into a column by what is lent
-pub column_lent : (columns : List ColumnView) (hs lent : List Held) (fs ss : List CellView) (i lane : ℕ) (cell : Option CellView) (x y : Held) (f s g t : CellView) → columns_of hs fs ss ≡ columns → lent ≡ hs → i < length hs → length hs ≤ length fs → length hs ≤ length ss → column_of y g t ≡ with_cell lane cell (column_of (get_or lent i x) (get_or fs i f) (get_or ss i s)) → columns_of (refill (length hs) hs (set lent i y)) (set fs i g) (set ss i t) ≡ set columns i (with_cell lane cell (get_or columns i empty_column))
-column_lent columns hs lent fs ss i lane cell x y f s g t e m l h k p =
-    subst (λ (cs : List ColumnView). columns_of (refill (length hs) hs (set lent i y)) (set fs i g) (set ss i t) ≡ set cs i (with_cell lane cell (get_or cs i empty_column))) e
-    (rw (one_rewritten hs lent i y m) (column_put hs fs ss i lane cell x y f s g t l h k (rw (← m) p)))
+-- a cell is put into a column
+pub column_given : (columns : List ColumnView) (hs ws : List Held) (fs ss gs ts : List BlockView) (i lane : ℕ) (cell : Option CellView) (y : Held) (d : BlockView) → columns_of hs fs ss ≡ columns → ws ≡ set hs i y → gs ≡ set fs i (get_or gs i d) → ts ≡ set ss i (get_or ts i d) → i < length hs → length fs ≡ length hs → length ss ≡ length hs → column_of y (get_or gs i d) (get_or ts i d) ≡ with_cell lane cell (column_of (get_or hs i nothing) (get_or fs i d) (get_or ss i d)) → columns_of ws gs ts ≡ set columns i (with_cell lane cell (get_or columns i empty_column))
+column_given columns hs ws fs ss gs ts i lane cell y d e w g t l h k p =
+    ap (λ xs. columns_of xs gs ts) w
+    ∙ ap (λ xs. columns_of (set hs i y) xs ts) g
+    ∙ ap (λ xs. columns_of (set hs i y) (set fs i (get_or gs i d)) xs) t
+    ∙ column_put hs fs ss i lane cell nothing y (get_or fs i d) (get_or ss i d) (get_or gs i d) (get_or ts i d) l (omega (arith, h)) (omega (arith, k))
+    (p ∙ ap (λ f. with_cell lane cell (column_of (get_or hs i nothing) f (get_or ss i d))) (own fs i d (omega (arith, l, h)))
+    ∙ ap (λ s. with_cell lane cell (column_of (get_or hs i nothing) (get_or fs i (get_or fs i d)) s)) (own ss i d (omega (arith, l, k))))
+    ∙ ap (λ cs. set cs i (with_cell lane cell (get_or cs i empty_column))) e
 
 -- what is seen of columns, one of them, and what is behind the last
-pub placed : (columns : List ColumnView) (hs : List Held) (fs ss : List CellView) (i : ℕ) → columns_of hs fs ss ≡ columns → length hs ≤ length fs → length hs ≤ length ss → i < length columns → i < length hs
-placed columns hs fs ss i e h k l = omega (arith, columns_seen columns hs fs ss e h k)
+pub placed : (columns : List ColumnView) (hs : List Held) (fs ss : List BlockView) (i : ℕ) → columns_of hs fs ss ≡ columns → length fs ≡ length hs → length ss ≡ length hs → i < length columns → i < length hs
+placed columns hs fs ss i e h k l = omega (arith, columns_seen columns hs fs ss e (omega (arith, h)) (omega (arith, k)))
 
-pub column_seen : (columns : List ColumnView) (hs lent : List Held) (fs ss : List CellView) (i : ℕ) (d : ColumnView) (x : Held) (f s : CellView) → columns_of hs fs ss ≡ columns → lent ≡ hs → i < length hs → length hs ≤ length fs → length hs ≤ length ss → get_or columns i d ≡ column_of (get_or lent i x) (get_or fs i f) (get_or ss i s)
-column_seen columns hs lent fs ss i d x f s e m l h k =
+pub column_seen : (columns : List ColumnView) (hs : List Held) (fs ss : List BlockView) (i : ℕ) (d : ColumnView) (b : BlockView) → columns_of hs fs ss ≡ columns → i < length hs → length fs ≡ length hs → length ss ≡ length hs → get_or columns i d ≡ column_of (get_or hs i nothing) (get_or fs i b) (get_or ss i b)
+column_seen columns hs fs ss i d b e l h k =
     ap (λ (cs : List ColumnView). get_or cs i d) (sym e)
-    ∙ column_at hs fs ss i d x f s l h k
-    ∙ ap (λ ls. column_of (get_or ls i x) (get_or fs i f) (get_or ss i s)) (sym m)
+    ∙ column_at hs fs ss i d nothing b b l (omega (arith, h)) (omega (arith, k))
 
-pub past_seen : (columns : List ColumnView) (hs : List Held) (fs ss : List CellView) (i : ℕ) (d : ColumnView) → columns_of hs fs ss ≡ columns → length hs ≤ i → get_or columns i d ≡ d
+pub past_seen : (columns : List ColumnView) (hs : List Held) (fs ss : List BlockView) (i : ℕ) (d : ColumnView) → columns_of hs fs ss ≡ columns → length hs ≤ i → get_or columns i d ≡ d
 past_seen columns hs fs ss i d e l = ap (λ (cs : List ColumnView). get_or cs i d) (sym e) ∙ column_past hs fs ss i d l
 
 -- whether lane 1 of some column holds a cell is what is held of them
@@ -141,15 +127,15 @@ is_kept true cell = refl
 is_kept false cell = refl
 
 -- with nothing in lane 1, each column has nothing there
-pub none_second : (hs : List Held) (fs ss : List CellView) (i : ℕ) (x : Held) → i < length hs → length hs ≤ length fs → length hs ≤ length ss → any_second (columns_of hs fs ss) ≡ false → (get_or hs i x).second ≡ false
+pub none_second : (hs : List Held) (fs ss : List BlockView) (i : ℕ) (x : Held) → i < length hs → length hs ≤ length fs → length hs ≤ length ss → any_second (columns_of hs fs ss) ≡ false → (get_or hs i x).second ≡ false
 none_second [] fs ss i x l a b e = absurd (omega arith)
 none_second (h ∷ hs) [] ss i x l a b e = absurd (omega arith)
 none_second (h ∷ hs) (f ∷ fs) [] i x l a b e = absurd (omega arith)
-none_second (h ∷ hs) (f ∷ fs) (s ∷ ss) zero x l a b e = sym (is_kept h.second (second_of h f s)) ∙ (or_parts (is_some (column_of h f s).second) (any_second (columns_of hs fs ss)) e).0
+none_second (h ∷ hs) (f ∷ fs) (s ∷ ss) zero x l a b e = sym (is_kept h.second (record { block = block_of_second h f s; quality = h.second_quality })) ∙ (or_parts (is_some (column_of h f s).second) (any_second (columns_of hs fs ss)) e).0
 none_second (h ∷ hs) (f ∷ fs) (s ∷ ss) (suc i) x l a b e = none_second hs fs ss i x (omega arith) (omega arith) (omega arith) (or_parts (is_some (column_of h f s).second) (any_second (columns_of hs fs ss)) e).1
 
-pub none_lent : (columns : List ColumnView) (hs lent : List Held) (fs ss : List CellView) (i : ℕ) (x : Held) → columns_of hs fs ss ≡ columns → lent ≡ hs → i < length hs → length hs ≤ length fs → length hs ≤ length ss → any_second columns ≡ false → (get_or lent i x).second ≡ false
-none_lent columns hs lent fs ss i x e m l h k a = ap (λ ls. (get_or ls i x).second) m ∙ none_second hs fs ss i x l h k (ap any_second e ∙ a)
+pub none_seen : (columns : List ColumnView) (hs : List Held) (fs ss : List BlockView) (i : ℕ) → columns_of hs fs ss ≡ columns → i < length hs → length fs ≡ length hs → length ss ≡ length hs → any_second columns ≡ false → (get_or hs i nothing).second ≡ false
+none_seen columns hs fs ss i e l h k a = none_second hs fs ss i nothing l (omega (arith, h)) (omega (arith, k)) (ap any_second e ∙ a)
 
 -- where lane 1 holds nothing, it holds nothing when a column is emptied
 pub none_set : (cs : List ColumnView) (i : ℕ) → any_second cs ≡ false → any_second (set cs i empty_column) ≡ false
@@ -206,19 +192,42 @@ none_disagree (shape ∷ shapes) [] e = refl
 none_disagree (shape ∷ shapes) (c ∷ cs) e =
     rw (alone shape c (or_parts (is_some c.second) (any_second cs) e).0, none_disagree shapes cs (or_parts (is_some c.second) (any_second cs) e).1) refl
 
--- the cells of one column more are copies, as far as they are held
-one_copied : (hs : List Held) (fs ss gs ts : List CellView) (i : ℕ) (h : Held) (f s g t : CellView) → i < length hs → length hs ≤ length fs → length hs ≤ length ss → length hs ≤ length gs → length hs ≤ length ts → column_of (get_or hs i h) f s ≡ column_of (get_or hs i h) (get_or gs i g) (get_or ts i t) → columns_of (take i hs) fs ss ≡ columns_of (take i hs) gs ts → columns_of (take (suc i) hs) (set fs i f) (set ss i s) ≡ columns_of (take (suc i) hs) gs ts
-one_copied [] fs ss gs ts i h f s g t l a b c d e k = absurd (omega arith)
-one_copied (x ∷ hs) [] ss gs ts i h f s g t l a b c d e k = absurd (omega arith)
-one_copied (x ∷ hs) (y ∷ fs) [] gs ts i h f s g t l a b c d e k = absurd (omega arith)
-one_copied (x ∷ hs) (y ∷ fs) (z ∷ ss) [] ts i h f s g t l a b c d e k = absurd (omega arith)
-one_copied (x ∷ hs) (y ∷ fs) (z ∷ ss) (v ∷ gs) [] i h f s g t l a b c d e k = absurd (omega arith)
-one_copied (x ∷ hs) (y ∷ fs) (z ∷ ss) (v ∷ gs) (w ∷ ts) zero h f s g t l a b c d e k = ap (λ column. column ∷ []) e
-one_copied (x ∷ hs) (y ∷ fs) (z ∷ ss) (v ∷ gs) (w ∷ ts) (suc i) h f s g t l a b c d e k =
-    rw (ap (λ columns. get_or columns 0 (column_of x y z)) k, one_copied hs fs ss gs ts i h f s g t (omega arith) (omega arith) (omega arith) (omega arith) (omega arith) e (ap (drop 1) k)) refl
+-- nor where the same is held of each, and lane 1 has the block of lane 0 or none
+same_numbers : (ns : List ℕ) → pointwise nat_eq ns ns ≡ true
+same_numbers [] = refl
+same_numbers (n ∷ ns) = rw (eq-eqb n n refl, same_numbers ns) refl
 
--- the same where the cells were read
-pub column_copied : (hs : List Held) (fs ss gs ts : List CellView) (i : ℕ) (h : Held) (f s g t : CellView) → i < length hs → length hs ≤ length fs → length hs ≤ length ss → length hs ≤ length gs → length hs ≤ length ts → g ≡ get_or gs i g → t ≡ get_or ts i t → column_of (get_or hs i h) f s ≡ column_of (get_or hs i h) g t → columns_of (take i hs) fs ss ≡ columns_of (take i hs) gs ts → columns_of (take (i + 1) hs) (set fs i f) (set ss i s) ≡ columns_of (take (i + 1) hs) gs ts
-column_copied hs fs ss gs ts i h f s g t l a b c d m n e k =
-    let more : i + 1 ≡ suc i = omega arith in
-    rw more (one_copied hs fs ss gs ts i h f s g t l a b c d (e ∙ ap (λ x. column_of (get_or hs i h) x t) m ∙ ap (column_of (get_or hs i h) (get_or gs i g)) n) k)
+is_same : (f : BlockView) → same_block f f ≡ true
+is_same f = rw (eq-eqb f.shape.phasors f.shape.phasors refl, eq-eqb f.shape.analogs f.shape.analogs refl, eq-eqb f.shape.digitals f.shape.digitals refl, same_numbers f.words) refl
+
+same_blocks : (b : Bool) (f : BlockView) (q r : ℕ) → cond {A = ℕ} (are_different (cond b (Some (record { block = f; quality = q })) None) (cond b (Some (record { block = f; quality = r })) None)) 1 0 ≡ 0
+same_blocks true f q r = ap (λ e. cond {A = ℕ} (not e) 1 0) (is_same f)
+same_blocks false f q r = refl
+
+different_once : (is_first is_second alike : Bool) (f s : BlockView) (q r : ℕ) → (alike || not is_second) ≡ true
+    → cond {A = ℕ} (are_different (present_of (kept is_first (record { block = f; quality = q }))) (present_of (kept is_second (record { block = cond alike f s; quality = r })))) 1 0 ≡ 0
+different_once is_first false alike f s q r e = lone (kept is_first (record { block = f; quality = q })) None refl
+different_once false true alike f s q r e = refl
+different_once true true true f s q r e = same_blocks (is_present f) f q r
+different_once true true false f s q r e = absurd (true≢false (sym e))
+
+disagreement_once : (shape : Option Shape) (h : Held) (f s : BlockView) → (h.alike || not h.second) ≡ true → disagreement_at shape (column_of h f s) ≡ 0
+disagreement_once None h f s e = refl
+disagreement_once (Some shape) h f s e = different_once h.first h.second h.alike f s h.first_quality h.second_quality e
+
+one_disagrees : (shapes : List (Option Shape)) (n : ℕ) (h : Held) (fs ss : List BlockView) → (h.alike || not h.second) ≡ true → disagreements_of shapes (columns_of (replicate n h) fs ss) ≡ 0
+one_disagrees [] n h fs ss e = refl
+one_disagrees (shape ∷ shapes) zero h fs ss e = refl
+one_disagrees (shape ∷ shapes) (suc n) h [] ss e = refl
+one_disagrees (shape ∷ shapes) (suc n) h (f ∷ fs) [] e = refl
+one_disagrees (shape ∷ shapes) (suc n) h (f ∷ fs) (s ∷ ss) e = rw (disagreement_once shape h f s e, one_disagrees shapes n h fs ss e) refl
+
+pub none_disagree_once : (shapes : List (Option Shape)) (columns : List ColumnView) (hs : List Held) (h : Held) (fs ss : List BlockView) → columns_of hs fs ss ≡ columns → hs ≡ replicate (length hs) h → (h.alike || not h.second) ≡ true → disagreements_of shapes columns ≡ 0
+none_disagree_once shapes columns hs h fs ss seen one e =
+    ap (disagreements_of shapes) (sym seen)
+    ∙ ap (λ (xs : List Held). disagreements_of shapes (columns_of xs fs ss)) one
+    ∙ one_disagrees shapes (length hs) h fs ss e
+
+pub or_last : (a b : Bool) → b ≡ true → (a || b) ≡ true
+or_last true b e = refl
+or_last false b e = e

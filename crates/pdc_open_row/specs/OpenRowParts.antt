@@ -1,32 +1,35 @@
--- What the lists of an open row show together: which lanes hold a cell, and the cells of each lane.
+-- What the lists of an open row show together: which lanes hold a cell, and the blocks of each lane.
 use Rattle.std.specs.Prelude.{ℕ, zero, suc, ◌==◌, false, if◌then◌else◌, List, [], ◌∷◌, Option, Some, None}
-use Rattle.pdc_row.specs.CellView.{CellView}
+use Rattle.pdc_row.specs.CellView.{BlockView, CellView, body_view}
 use Rattle.pdc_open_row.specs.Views.{ColumnView, kept}
 use Rattle.pdc_open_row.specs.declared.column.Chosen.{Chosen}
 use Rattle.pdc_open_row.specs.declared.column.Held.{Held}
 
 -- no lane holds a cell
 abbrev pub nothing : Held
-nothing = record { first = false; second = false; alike = false; quality = 0 }
+nothing = record { first = false; second = false; alike = false; first_quality = 0; second_quality = 0 }
 
 -- the lane, 0 or else 1, holds no cell
 abbrev pub without_lane : ℕ → Held → Held
 without_lane lane held = if lane == 0 then record held { first = false } else record held { second = false }
 
--- the cell of lane 1, of these cells: its block may stand in that of lane 0
-abbrev pub second_of : Held → (first second : CellView) → CellView
-second_of held first second = record { block = if held.alike then first.block else second.block; quality = held.quality }
+-- the block of lane 1, of these of the lanes: it may stand in lane 0
+abbrev pub block_of_second : Held → (first second : BlockView) → BlockView
+block_of_second held first second = if held.alike then first else second
 
--- what a column gives: the block of a cell, and the quality of the lane that gives it
+-- what a column gives: a block, and the quality of the lane that gives it
 abbrev pub chosen_view : Chosen → CellView
-chosen_view chosen = record { block = chosen.cell.now.block; quality = chosen.quality }
+chosen_view chosen = record { block = body_view chosen.body; quality = chosen.quality }
 
--- what the lanes of a column hold, of these cells
-abbrev pub column_of : Held → (first second : CellView) → ColumnView
-column_of held first second = record { first = kept held.first first; second = kept held.second (second_of held first second) }
+-- what the lanes of a column hold, of these blocks
+abbrev pub column_of : Held → (first second : BlockView) → ColumnView
+column_of held first second = record {
+  first = kept held.first (record { block = first; quality = held.first_quality });
+  second = kept held.second (record { block = block_of_second held first second; quality = held.second_quality });
+}
 
 -- the columns, where each list has one part of every column
-abbrev pub columns_of : List Held → (first second : List CellView) → List ColumnView
+abbrev pub columns_of : List Held → (first second : List BlockView) → List ColumnView
 columns_of [] first second = []
 columns_of (h ∷ held) [] second = []
 columns_of (h ∷ held) (f ∷ first) [] = []

@@ -1,16 +1,15 @@
-//! What was taken of one column at one instant, lane by lane. Which lanes hold a cell stands apart from the cells, so that a
-//! look at what is held reads no cell.
-ghost use Rattle.std.specs.Prelude.{◌≡◌, ◌≤◌, IfSome, false, length, map, option_map, replicate};
-ghost use Rattle.std.specs.Prelude.{true, Some};
-ghost use Rattle.pdc_row.specs.CellView.{CellView, same_block};
+//! What was taken of one column at one instant, lane by lane. Which lanes hold a cell stands apart from the blocks, so that a
+//! look at what is held reads no block.
+ghost use Rattle.std.specs.Prelude.{◌≡◌, ◌≤◌, ◌<◌, ℕ, false, length, map, option_map, true, Some};
+ghost use Rattle.std.specs.Prelude.{slice_index_or, slice_set};
+ghost use Rattle.pdc_row.specs.CellView.{BlockView, same_block};
 ghost use Rattle.pdc_row.specs.Chosen.{present_of};
 ghost use Rattle.pdc_open_row.specs.Chosen.{are_different, chosen_of, disagreement_at};
-ghost use Rattle.pdc_open_row.specs.OpenRowParts.{chosen_view, column_of, nothing, second_of};
+ghost use Rattle.pdc_open_row.specs.OpenRowParts.{block_of_second, chosen_view, column_of, nothing};
 ghost use Rattle.pdc_open_row.specs.OpenRowParts.{without_lane};
 ghost use Rattle.pdc_open_row.specs.Taking.{cell_in, holds_other, with_cell};
-ghost use Rattle.pdc_open_row.specs.Views.{kept};
 
-use pdc_row::{Cell, CopyFrom, Offered, Shape};
+use pdc_row::{Body, Offered, RowBlocks, Shape};
 
 /// Which lanes of a column hold a cell.
 #[derive(Clone, Copy)]
@@ -19,18 +18,19 @@ pub struct Held {
     pub first: bool,
     /// Whether lane 1 holds one, in a table of two lanes.
     pub second: bool,
-    /// Whether the block of lane 1, where it holds one, stands in the cell of lane 0, since it was found to be the same: else it stands in
-    /// its own.
+    /// Whether the block of lane 1, where it holds one, stands in lane 0, since it was found to be the same: else it stands in its own.
     pub alike: bool,
+    /// The time quality byte of the frame of lane 0.
+    pub first_quality: u8,
     /// The time quality byte of the frame of lane 1.
-    pub quality: u8,
+    pub second_quality: u8,
 }
 
 /// What a column gives.
 #[derive(Clone, Copy)]
 pub(crate) struct Chosen<'a> {
-    /// The cell that has the block.
-    pub cell: &'a Cell,
+    /// The block.
+    pub body: Body<'a>,
     /// The time quality byte of the frame of the lane that gives it.
     pub quality: u8,
 }
@@ -40,7 +40,8 @@ pub const NOTHING: Held = Held {
     first: false,
     second: false,
     alike: false,
-    quality: 0,
+    first_quality: 0,
+    second_quality: 0,
 };
 
 /// No lane holds a cell.
@@ -53,75 +54,89 @@ impl Default for Held {
 }
 
 impl Held {
-    /// The cell of lane 1, where that is held: its quality, and its block wherever it stands.
+    /// Where the block of lane 1 stands, if that holds one.
     #[inline(always)]
-    fn second_of<'a>(&self, first: &'a Cell, second: &'a Cell) -> Chosen<'a>
-        ensures { chosen_view result ≡ second_of self.now first.now second.now }
+    pub(crate) fn of_second<'a>(self, first: &'a RowBlocks, second: &'a RowBlocks) -> &'a RowBlocks
+        ensures block { (place : ℕ) (default : BlockView) →
+            slice_index_or result.now place default ≡ block_of_second self
+            (slice_index_or first.now place default) (slice_index_or second.now place default) }
+        ensures len { (n : ℕ) → n < length first.now → n < length second.now →
+            n < length result.now }
     {
-        Chosen {
-            cell: if self.alike { first } else { second },
-            quality: self.quality,
-        }
+        if self.alike { first } else { second }
     }
 
-    /// The block of the lowest lane whose block is present, of these cells of the column.
-    #[inline]
-    pub(crate) fn chosen<'a>(&self, first: &'a Cell, second: &'a Cell) -> Option<Chosen<'a>>
-        ensures { option_map chosen_view result ≡
-            chosen_of (column_of self.now first.now second.now) }
+    /// Whether lane 0 holds a cell, and lane 1 no other block.
+    #[inline(always)]
+    pub(crate) fn gives_first(self) -> bool
+        ensures first { result ≡ true → self.first ≡ true }
+        ensures second { result ≡ true → self.alike ≡ false → self.second ≡ false }
     {
-        if self.first && first.is_present() {
+        self.first && (self.alike || !self.second)
+    }
+
+    /// The block of the lowest lane whose block is present, of the column at this place.
+    #[inline(always)]
+    pub(crate) fn chosen<'a>(
+        self,
+        first: &'a RowBlocks,
+        second: &'a RowBlocks,
+        place: usize,
+    ) -> Option<Chosen<'a>>
+        requires first { place < length first.now }
+        requires second { place < length second.now }
+        ensures { (default : BlockView) → option_map chosen_view result ≡
+            chosen_of (column_of self (slice_index_or first.now place default)
+            (slice_index_or second.now place default)) }
+    {
+        if self.first && first.is_present(place) {
             return Some(Chosen {
-                cell: first,
-                quality: first.quality(),
+                body: first.body(place),
+                quality: self.first_quality,
             });
         }
-        let second = self.second_of(first, second);
-        if self.second && second.cell.is_present() {
-            return Some(second);
+        let second = self.of_second(first, second);
+        if self.second && second.is_present(place) {
+            return Some(Chosen {
+                body: second.body(place),
+                quality: self.second_quality,
+            });
         }
         None
     }
 
-    /// The block of lane 0, where it is held and present, of these cells of the column.
-    #[inline(always)]
-    pub(crate) fn first_present<'a>(&self, first: &'a Cell, _second: &Cell) -> Option<Chosen<'a>>
-        ensures { IfSome result (λ chosen. Some (chosen_view chosen) ≡
-            chosen_of (column_of self.now first.now _second.now)) }
-    {
-        if self.first && first.is_present() {
-            Some(Chosen {
-                cell: first,
-                quality: first.quality(),
-            })
-        } else {
-            None
-        }
-    }
-
-    /// Puts a copy of the block, and the time quality byte of its frame, into the lane, 0 or else 1, of these of the column. It is alone
+    /// Puts a copy of the block, and the time quality byte of its frame, into the lane, 0 or else 1, of the column at this place. It is alone
     /// where it is known that it goes into lane 0, and that lane 1 holds nothing.
     #[inline(always)]
     pub(crate) fn put<B: Offered>(
         &mut self,
-        first: &mut Cell,
-        second: &mut Cell,
+        first: &mut RowBlocks,
+        second: &mut RowBlocks,
+        place: usize,
         lane: usize,
         block: &B,
         quality: u8,
         is_alone: bool,
     )
-        requires { is_alone ≡ true → (lane ≡ 0) × (self.old.second ≡ false) }
-        ensures column { column_of self.new first.new second.new
+        requires first { place < length first.old }
+        requires second { place < length second.old }
+        requires alone { is_alone ≡ true → (lane ≡ 0) × (self.old.second ≡ false) }
+        ensures column { (default : BlockView) → column_of self.new
+            (slice_index_or first.new place default) (slice_index_or second.new place default)
             ≡ with_cell lane (Some (record { block = B.view block.now; quality = quality }))
-            (column_of self.old first.old second.old) }
-        ensures alone { lane ≡ 0 → self.new.second ≡ self.old.second }
+            (column_of self.old (slice_index_or first.old place default)
+            (slice_index_or second.old place default)) }
+        ensures first { (default : BlockView) →
+            first.new ≡ slice_set first.old place (slice_index_or first.new place default) }
+        ensures second { (default : BlockView) →
+            second.new ≡ slice_set second.old place (slice_index_or second.new place default) }
     {
         if is_alone {
             self.first = true;
-            first.set(block, quality);
+            self.first_quality = quality;
+            first.put(place, block);
         } else {
-            self.put_beside(first, second, lane, block, quality);
+            self.put_beside(first, second, place, lane, block, quality);
         }
     }
 
@@ -129,79 +144,105 @@ impl Held {
     #[inline(always)]
     fn put_beside<B: Offered>(
         &mut self,
-        first: &mut Cell,
-        second: &mut Cell,
+        first: &mut RowBlocks,
+        second: &mut RowBlocks,
+        place: usize,
         lane: usize,
         block: &B,
         quality: u8,
     )
-        ensures column { column_of self.new first.new second.new
+        requires first { place < length first.old }
+        requires second { place < length second.old }
+        ensures column { (default : BlockView) → column_of self.new
+            (slice_index_or first.new place default) (slice_index_or second.new place default)
             ≡ with_cell lane (Some (record { block = B.view block.now; quality = quality }))
-            (column_of self.old first.old second.old) }
-        ensures alone { lane ≡ 0 → self.new.second ≡ self.old.second }
+            (column_of self.old (slice_index_or first.old place default)
+            (slice_index_or second.old place default)) }
+        ensures first { (default : BlockView) →
+            first.new ≡ slice_set first.old place (slice_index_or first.new place default) }
+        ensures second { (default : BlockView) →
+            second.new ≡ slice_set second.old place (slice_index_or second.new place default) }
     {
         if lane == 0 {
-            self.make_way(first, second, block);
+            self.make_way(first, second, place, block);
             self.first = true;
-            first.set(block, quality);
+            self.first_quality = quality;
+            first.put(place, block);
             return;
         }
         self.second = true;
-        self.quality = quality;
-        if self.first && first.holds(block) {
+        self.second_quality = quality;
+        if self.first && first.holds(place, block) {
             self.alike = true;
         } else {
             self.alike = false;
-            second.set(block, quality);
+            second.put(place, block);
         }
     }
 
-    /// Keeps what lane 1 holds, before this block comes into the cell of lane 0: its block goes into its own cell, and may be the same.
+    /// Keeps what lane 1 holds, before this block comes into lane 0: its block goes into its own place, and may be the same.
     #[inline(always)]
-    fn make_way<B: Offered>(&mut self, first: &Cell, second: &mut Cell, block: &B)
-        ensures second { (cell : CellView) → cell.block ≡ B.view block.now
-            → kept self.new.second (second_of self.new cell second.new) ≡
-            kept self.old.second (second_of self.old first.now second.old) }
-        ensures held { self.new.second ≡ self.old.second }
+    fn make_way<B: Offered>(
+        &mut self,
+        first: &RowBlocks,
+        second: &mut RowBlocks,
+        place: usize,
+        block: &B,
+    )
+        requires first { place < length first.now }
+        requires second { place < length second.old }
+        ensures column { (default : BlockView) → column_of (record self.new { first = false })
+            (B.view block.now) (slice_index_or second.new place default)
+            ≡ column_of (record self.old { first = false })
+            (slice_index_or first.now place default) (slice_index_or second.old place default) }
+        ensures second { (default : BlockView) →
+            second.new ≡ slice_set second.old place (slice_index_or second.new place default) }
     {
         if self.second {
-            self.meet(first, second, block);
+            self.meet(first, second, place, block);
         }
     }
 
     /// The same where lane 1 holds a cell.
     #[inline(always)]
-    fn meet<B: Offered>(&mut self, first: &Cell, second: &mut Cell, block: &B)
-        ensures held { self.new
+    fn meet<B: Offered>(
+        &mut self,
+        first: &RowBlocks,
+        second: &mut RowBlocks,
+        place: usize,
+        block: &B,
+    )
+        requires first { place < length first.now }
+        requires second { place < length second.old }
+        ensures held { (default : BlockView) → self.new
             ≡ record self.old {
-              alike = same_block (second_of self.old first.now second.old).block
-                  (B.view block.now);
+              alike = same_block (block_of_second self.old
+                  (slice_index_or first.now place default)
+                  (slice_index_or second.old place default)) (B.view block.now);
             } }
-        ensures second { second.new.block ≡ (second_of self.old first.now second.old).block }
+        ensures block { (default : BlockView) → slice_index_or second.new place default
+            ≡ block_of_second self.old (slice_index_or first.now place default)
+            (slice_index_or second.old place default) }
+        ensures second { (default : BlockView) →
+            second.new ≡ slice_set second.old place (slice_index_or second.new place default) }
     {
-        if self.alike {
-            second.copy_from(first);
-        }
-        self.alike = second.holds(block);
+        self.part(first, second, place);
+        self.alike = second.holds(place, block);
     }
 
-    /// Makes the cells that are held, of these of the column, copies of those of another row.
-    #[inline]
-    pub(crate) fn copy(
-        &self,
-        first: &mut Cell,
-        second: &mut Cell,
-        other_first: &Cell,
-        other_second: &Cell,
-    )
-        ensures { column_of self.now first.new second.new ≡
-            column_of self.now other_first.now other_second.now }
+    /// Makes the block of lane 1 stand in its own place.
+    #[inline(always)]
+    fn part(&self, first: &RowBlocks, second: &mut RowBlocks, place: usize)
+        requires first { place < length first.now }
+        requires second { place < length second.old }
+        ensures block { (default : BlockView) → slice_index_or second.new place default
+            ≡ block_of_second self.now (slice_index_or first.now place default)
+            (slice_index_or second.old place default) }
+        ensures second { (default : BlockView) →
+            second.new ≡ slice_set second.old place (slice_index_or second.new place default) }
     {
-        if self.first || self.alike {
-            first.copy_from(other_first);
-        }
-        if self.second && !self.alike {
-            second.copy_from(other_second);
+        if self.alike {
+            second.put(place, &first.body(place));
         }
     }
 
@@ -217,32 +258,51 @@ impl Held {
         }
     }
 
-    /// Whether the lane, 0 or else 1, of these of the column holds another block than this; a lane that holds nothing does not.
+    /// Whether the lane, 0 or else 1, of the column at this place holds another block than this; a lane that holds nothing does not.
     #[inline]
     pub(crate) fn holds_other<B: Offered>(
-        &self,
-        first: &Cell,
-        second: &Cell,
+        self,
+        first: &RowBlocks,
+        second: &RowBlocks,
+        place: usize,
         lane: usize,
         block: &B,
     ) -> bool
-        ensures { result ≡ holds_other (cell_in lane (column_of self.now first.now second.now))
-            (B.view block.now) }
+        requires first { place < length first.now }
+        requires second { place < length second.now }
+        ensures { (default : BlockView) → result ≡ holds_other (cell_in lane
+            (column_of self (slice_index_or first.now place default)
+            (slice_index_or second.now place default))) (B.view block.now) }
     {
         if lane == 0 {
-            self.first && !first.holds(block)
+            self.first && !first.holds(place, block)
         } else {
-            self.second && !self.second_of(first, second).cell.holds(block)
+            self.second && !self.of_second(first, second).holds(place, block)
         }
     }
 
-    /// One where the column of these cells has a shape, and its lanes hold present blocks that differ.
+    /// One where the column at this place has a shape, and its lanes hold present blocks that differ.
     #[inline]
-    pub(crate) fn disagreements(&self, first: &Cell, second: &Cell, shape: Option<Shape>) -> u64
-        ensures value { result ≡ disagreement_at shape (column_of self.now first.now second.now) }
+    pub(crate) fn disagreements(
+        self,
+        first: &RowBlocks,
+        second: &RowBlocks,
+        place: usize,
+        shape: Option<Shape>,
+    ) -> u64
+        requires first { place < length first.now }
+        requires second { place < length second.now }
+        ensures value { (default : BlockView) → result ≡ disagreement_at shape
+            (column_of self (slice_index_or first.now place default)
+            (slice_index_or second.now place default)) }
         ensures most { result ≤ 1 }
     {
-        if !self.alike && self.second && self.first && shape.is_some() && differ(first, second) {
+        if !self.alike
+            && self.second
+            && self.first
+            && shape.is_some()
+            && differ(first, second, place)
+        {
             1
         } else {
             0
@@ -250,18 +310,15 @@ impl Held {
     }
 }
 
-/// Whether both blocks are present, and they differ.
-fn differ(first: &Cell, second: &Cell) -> bool
-    ensures { result ≡ are_different (present_of (Some first.now)) (present_of (Some second.now)) }
+/// Whether both blocks at this place are present, and they differ.
+fn differ(first: &RowBlocks, second: &RowBlocks, place: usize) -> bool
+    requires first { place < length first.now }
+    requires second { place < length second.now }
+    ensures { (default : BlockView) (a b : ℕ) → result ≡ are_different
+        (present_of (Some (record { block = slice_index_or first.now place default; quality = a })))
+        (present_of (Some (record { block = slice_index_or second.now place default; quality = b }))) }
 {
-    first.is_present() && second.is_present() && !first.agrees(second)
-}
-
-/// Empties each column.
-pub(crate) fn forget_all(held: &mut [Held])
-    ensures { held.new ≡ replicate (length held.old) nothing }
-{
-    held.fill(NOTHING);
+    first.is_present(place) && second.is_present(place) && !first.holds(place, &second.body(place))
 }
 
 /// Empties the lane of each column.

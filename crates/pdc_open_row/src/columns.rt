@@ -1,55 +1,78 @@
-//! The columns of a row: which lanes of each hold a cell, and the cells of each lane.
-ghost use Rattle.std.specs.Prelude.{◌≡◌, ℕ, ◌<◌, ◌≤◌, ◌∷◌, [], IfSome, None, Some, length, map};
+//! The columns of a row: which lanes of each hold a cell, and the blocks of each lane.
+ghost use Rattle.std.specs.Prelude.{◌≡◌, ℕ, ◌<◌, ◌≤◌, ◌+◌, ◌∷◌, [], IfSome, List, None, Option, Some, length};
+ghost use Rattle.std.specs.Prelude.{map};
 ghost use Rattle.std.specs.Prelude.{option_map, replicate, false, true, slice_index_or};
 ghost use Rattle.std.specs.Prelude.{slice_set};
 ghost use Rattle.std.specs.List.{All};
-ghost use Rattle.pdc_open_row.specs.Chosen.{chosen_of, disagreement_at};
+ghost use Rattle.pdc_row.specs.pdc_block.Block.{words_in};
+ghost use Rattle.pdc_row.specs.pdc_cfg.declared.shape.Shape.{Shape as ShapeData};
+ghost use Rattle.pdc_open_row.specs.Chosen.{chosen_of, disagreement_at, disagreements_of};
+ghost use Rattle.pdc_open_row.specs.Parts.{are_laid_out, cut_cells, parts_len};
 ghost use Rattle.pdc_open_row.specs.Taking.{any_second, cell_in, cells_in, conflicts};
 ghost use Rattle.pdc_open_row.specs.Taking.{holds_other, with_cell, with_cells};
-ghost use Rattle.pdc_open_row.specs.OpenRowParts.{chosen_view, columns_of, nothing};
+ghost use Rattle.pdc_open_row.specs.OpenRowParts.{chosen_view, worst_kept};
+ghost use Rattle.pdc_row.specs.Quality.{quality_of, worst_of};
+ghost use Rattle.pdc_open_row.specs.Row.{blocks_of, qualities_of};
 ghost use Rattle.pdc_open_row.specs.Views.{empty_column};
 
-use crate::column::{Chosen, NOTHING, forget_all, forget_lane};
-use crate::{Held, MAX_COLUMNS, copy_items};
-use arrayvec::ArrayVec;
-use pdc_row::{Cell, CopyFrom, Offered, Shape};
-use std::array;
+use crate::column::{Chosen, Held, NOTHING};
+use crate::lanes::Lanes;
+use crate::parts::Part;
+use crate::row_blocks::{are_shapes, give_over, worst_of_one};
+use crate::{MAX_COLUMNS, WORST_QUALITY};
+use pdc_row::{CopyFrom, Offered, RowBlocks, Shape, words_are_cut};
 use std::marker::Model;
 
 /// The columns of a row.
 #[derive(Drop)]
 pub struct Columns {
     /// Which lanes of each column hold a cell: all that a row that begins writes, and all that most looks at it read.
-    held: ArrayVec<Held, MAX_COLUMNS>,
-    /// The cell of lane 0 of each column, where it is held.
-    first: [Cell; MAX_COLUMNS],
-    /// The cell of lane 1 of each column, where it is held: behind all of lane 0, since a table of one lane has none.
-    second: [Cell; MAX_COLUMNS],
+    held: Lanes,
+    /// The blocks of lane 0, each at its column, where they are held: one after the other, as the frame that goes out has them.
+    first: RowBlocks,
+    /// The blocks of lane 1, where they are held and do not stand in lane 0.
+    second: RowBlocks,
 }
 
 impl Model for Columns {
-    ghost use Rattle.std.specs.Prelude.{◌≤◌, List, length};
+    ghost use Rattle.std.specs.Prelude.{◌≡◌, List, length};
     ghost use Rattle.pdc_open_row.specs.OpenRowParts.{columns_of};
     ghost use Rattle.pdc_open_row.specs.Views.{ColumnView};
 
     ghost Value = { List ColumnView };
 
-    ghost view = { λ columns. columns_of columns.held.items columns.first columns.second };
+    ghost view = { λ columns. columns_of columns.held columns.first columns.second };
 
     ghost invariant = { λ columns. record {
-      first : length columns.held.items ≤ length columns.first;
-      second : length columns.held.items ≤ length columns.second;
+      first : length columns.first ≡ length columns.held;
+      second : length columns.second ≡ length columns.held;
     } };
 }
 
-/// So many columns in which nothing was taken.
-fn nothings(count: usize) -> ArrayVec<Held, MAX_COLUMNS>
+/// So many blocks, to be written over.
+fn blank_blocks(count: usize) -> RowBlocks
     requires { count ≤ MAX_COLUMNS }
-    ensures { result.items ≡ replicate count nothing }
+    ensures { length result ≡ count }
 {
-    let mut nothings = ArrayVec::from_array_in((), [NOTHING; MAX_COLUMNS]);
-    nothings.truncate(count);
-    nothings
+    let mut blocks = RowBlocks::new();
+    while blocks.len() < count {
+        blocks.push_absent(Shape::default());
+    }
+    blocks
+}
+
+/// Whether these parts are one for each column, in their order, each of the shape that its column has here.
+fn are_laid_out<P: Part>(parts: &[P], shapes: &[Shape], column: usize) -> bool
+    requires { column + length shapes.now ≤ MAX_COLUMNS }
+    ensures { result ≡ are_laid_out P.column_of P.shape_of parts.now shapes.now column }
+{
+    let Some((part, parts)) = parts.split_first() else {
+        return shapes.is_empty();
+    };
+    let Some((shape, shapes)) = shapes.split_first() else {
+        return false;
+    };
+    part.column() == column && part.shape() == *shape && are_laid_out(parts, shapes, column + 1)
 }
 
 impl Columns {
@@ -59,18 +82,10 @@ impl Columns {
         ensures { result ≡ replicate count empty_column }
     {
         Columns {
-            held: nothings(count),
-            first: array::from_fn(|_| Cell::blank()),
-            second: array::from_fn(|_| Cell::blank()),
+            held: Lanes::blank(count),
+            first: blank_blocks(count),
+            second: blank_blocks(count),
         }
-    }
-
-    /// How many there are.
-    #[inline(always)]
-    pub(crate) fn len(&self) -> usize
-        ensures { result ≡ length self.now }
-    {
-        self.held.len()
     }
 
     /// Empties each column.
@@ -78,7 +93,7 @@ impl Columns {
     pub(crate) fn forget_all(&mut self)
         ensures { self.new ≡ replicate (length self.old) empty_column }
     {
-        forget_all(self.held.as_mut_slice());
+        self.held.fill(NOTHING);
     }
 
     /// Empties the column.
@@ -87,7 +102,7 @@ impl Columns {
         requires { column < length self.old }
         ensures { self.new ≡ slice_set self.old column empty_column }
     {
-        self.held[column] = NOTHING;
+        self.held.set(column, NOTHING);
     }
 
     /// Empties the lane of each column.
@@ -95,7 +110,7 @@ impl Columns {
     pub(crate) fn forget_lane(&mut self, lane: usize)
         ensures { self.new ≡ map (with_cell lane None) self.old }
     {
-        forget_lane(self.held.as_mut_slice(), lane);
+        self.held.forget_lane(lane);
     }
 
     /// Puts the blocks into their columns, in this lane: most frames bring one. They are alone where it is known that the lane is 0, and
@@ -133,17 +148,17 @@ impl Columns {
         ensures { self.new ≡ with_cells lane (cells_in B.view (cell.now ∷ []) quality) self.old }
     {
         let (column, block) = cell;
-        let held = self.held.as_mut_slice();
-        let first: &mut [Cell] = &mut self.first;
-        let second: &mut [Cell] = &mut self.second;
-        held[*column].put(
-            &mut first[*column],
-            &mut second[*column],
+        let mut held = self.held.at(*column);
+        held.put(
+            &mut self.first,
+            &mut self.second,
+            *column,
             lane,
             block,
             quality,
             is_alone,
         );
+        self.held.set(*column, held);
     }
 
     /// The same of any number of blocks: a call of its own, so that the way of one block keeps what it needs in registers.
@@ -162,6 +177,99 @@ impl Columns {
         for cell in cells {
             self.put_one(lane, cell, quality, is_alone);
         }
+    }
+
+    /// Puts the blocks of a whole frame, one for each column as they are laid out here, into this lane: by one copy, or by none where they are
+    /// those of the other lane. Whether it did; else nothing is put.
+    pub(crate) fn put_whole<P: Part>(
+        &mut self,
+        lane: usize,
+        parts: &[P],
+        bytes: &[u8],
+        quality: u8,
+    ) -> bool
+        requires { length bytes.now ≡ parts_len P.shape_of parts.now }
+        ensures whole { result ≡ true → self.new ≡ with_cells lane (cut_cells P.column_of P.shape_of
+            parts.now quality (words_in bytes.now)) self.old }
+        ensures none { result ≡ false → self.new ≡ self.old }
+    {
+        if lane == 0 {
+            self.put_whole_first(parts, bytes, quality)
+        } else {
+            self.put_whole_second(lane, parts, bytes, quality)
+        }
+    }
+
+    /// The same into lane 0.
+    #[inline(always)]
+    fn put_whole_first<P: Part>(&mut self, parts: &[P], bytes: &[u8], quality: u8) -> bool
+        requires { length bytes.now ≡ parts_len P.shape_of parts.now }
+        ensures whole { result ≡ true → self.new ≡ with_cells 0 (cut_cells P.column_of P.shape_of
+            parts.now quality (words_in bytes.now)) self.old }
+        ensures none { result ≡ false → self.new ≡ self.old }
+    {
+        words_are_cut();
+        let Some(mut held) = self.held.one() else {
+            return false;
+        };
+        if parts.len() != self.held.len() || !are_laid_out(parts, self.first.shapes(), 0) {
+            return false;
+        }
+        held.first = true;
+        held.first_quality = quality;
+        if !held.second {
+            self.first.write_over(bytes);
+            self.held.fill(held);
+            return true;
+        }
+        if held.alike || !are_laid_out(parts, self.second.shapes(), 0) {
+            return false;
+        }
+        if !self.second.has_bytes(bytes) {
+            return false;
+        }
+        held.alike = true;
+        self.first.write_over(bytes);
+        self.held.fill(held);
+        true
+    }
+
+    /// The same into lane 1: what lane 0 has is not written again.
+    #[inline(always)]
+    fn put_whole_second<P: Part>(
+        &mut self,
+        lane: usize,
+        parts: &[P],
+        bytes: &[u8],
+        quality: u8,
+    ) -> bool
+        requires lane { 0 < lane }
+        requires size { length bytes.now ≡ parts_len P.shape_of parts.now }
+        ensures whole { result ≡ true → self.new ≡ with_cells lane (cut_cells P.column_of P.shape_of
+            parts.now quality (words_in bytes.now)) self.old }
+        ensures none { result ≡ false → self.new ≡ self.old }
+    {
+        words_are_cut();
+        let Some(mut held) = self.held.one() else {
+            return false;
+        };
+        if parts.len() != self.held.len() {
+            return false;
+        }
+        held.second = true;
+        held.second_quality = quality;
+        if are_laid_out(parts, self.first.shapes(), 0) && self.first.has_bytes(bytes) {
+            held.alike = true;
+            self.held.fill(held);
+            return true;
+        }
+        if !are_laid_out(parts, self.second.shapes(), 0) {
+            return false;
+        }
+        held.alike = false;
+        self.second.write_over(bytes);
+        self.held.fill(held);
+        true
     }
 
     /// Whether some of these blocks differs from what this lane of its column holds.
@@ -185,8 +293,8 @@ impl Columns {
         ensures { result ≡ holds_other (cell_in lane (slice_index_or self.now column empty_column))
             (B.view block.now) }
     {
-        let held = self.held.as_slice();
-        held[column].holds_other(&self.first[column], &self.second[column], lane, block)
+        let held = self.held.at(column);
+        held.holds_other(&self.first, &self.second, column, lane, block)
     }
 
     /// How many disagreements the column at this place gives, one or none; past the last column there is nothing.
@@ -195,11 +303,23 @@ impl Columns {
         ensures value { result ≡ disagreement_at shape (slice_index_or self.now place empty_column) }
         ensures most { result ≤ 1 }
     {
-        let held = self.held.as_slice();
-        if place < held.len() {
-            held[place].disagreements(&self.first[place], &self.second[place], shape)
+        if place < self.held.len() {
+            let held = self.held.at(place);
+            held.disagreements(&self.first, &self.second, place, shape)
         } else {
             0
+        }
+    }
+
+    /// Whether it is known of all columns at once that their lanes do not disagree.
+    #[inline]
+    pub(crate) fn are_one(&self) -> bool
+        ensures { (shapes : List (Option ShapeData)) → result ≡ true →
+            disagreements_of shapes self.now ≡ 0 }
+    {
+        match self.held.one() {
+            Some(held) => held.alike || !held.second,
+            None => false,
         }
     }
 
@@ -209,65 +329,39 @@ impl Columns {
         ensures { option_map chosen_view result ≡
             chosen_of (slice_index_or self.now place empty_column) }
     {
-        let held = self.held.as_slice();
-        if place < held.len() {
-            held[place].chosen(&self.first[place], &self.second[place])
+        if place < self.held.len() {
+            let held = self.held.at(place);
+            held.chosen(&self.first, &self.second, place)
         } else {
             None
         }
     }
 
-    /// The block of lane 0 of the column at this place, where it is held and present: then it is what the column gives, whatever lane 1
-    /// holds.
-    #[inline(always)]
-    pub(crate) fn first_at(&self, place: usize) -> Option<Chosen<'_>>
-        requires { place < length self.now }
-        ensures { IfSome result (λ chosen. Some (chosen_view chosen) ≡
-            chosen_of (slice_index_or self.now place empty_column)) }
+    /// Makes these the blocks that the columns give, where all columns have shapes and lane 0 is laid out in them: by one copy, over which the
+    /// others are written. It answers the number above the worst quality.
+    pub(crate) fn give_whole(&self, shapes: &[Option<Shape>], blocks: &mut RowBlocks) -> Option<u32>
+        ensures blocks { IfSome result (λ _. blocks.new ≡ blocks_of shapes.now self.now) }
+        ensures quality { IfSome result (λ above. worst_of (worst_kept above) [] ≡
+            quality_of (qualities_of shapes.now self.now)) }
+        ensures fits { IfSome result (λ above. above ≤ WORST_QUALITY + 1) }
+        ensures few { IfSome result (λ _. length blocks.new ≤ MAX_COLUMNS) }
     {
-        let held = self.held.as_slice();
-        held[place].first_present(&self.first[place], &self.second[place])
+        if shapes.len() != self.held.len() || !are_shapes(shapes, self.first.shapes()) {
+            return None;
+        }
+        blocks.copy_from(&self.first);
+        Some(match self.held.one() {
+            Some(held) if held.gives_first() => worst_of_one(held, &self.first),
+            _ => give_over(&self.held, &self.first, &self.second, blocks),
+        })
     }
 }
 
 impl CopyFrom for Columns {
-    /// Of the cells those are copied that are held.
     #[inline]
     fn copy_from(&mut self, other: &Columns) {
-        copy_items(&mut self.held, other.held.as_slice());
-        copy_held(
-            other.held.as_slice(),
-            &mut self.first,
-            &mut self.second,
-            &other.first,
-            &other.second,
-        );
-    }
-}
-
-/// Makes the cells that are held copies of those of another row.
-fn copy_held(
-    held: &[Held],
-    first: &mut [Cell],
-    second: &mut [Cell],
-    other_first: &[Cell],
-    other_second: &[Cell],
-)
-    requires first { length held.now ≤ length first.old }
-    requires second { length held.now ≤ length second.old }
-    requires other_first { length held.now ≤ length other_first.now }
-    requires other_second { length held.now ≤ length other_second.now }
-    ensures columns { columns_of held.now first.new second.new ≡
-        columns_of held.now other_first.now other_second.now }
-    ensures first { length first.new ≡ length first.old }
-    ensures second { length second.new ≡ length second.old }
-{
-    for (place, held) in held.iter().enumerate() {
-        held.copy(
-            &mut first[place],
-            &mut second[place],
-            &other_first[place],
-            &other_second[place],
-        );
+        self.held.copy_from(&other.held);
+        self.first.copy_from(&other.first);
+        self.second.copy_from(&other.second);
     }
 }

@@ -11,6 +11,7 @@ mod blocks;
 mod column;
 mod columns;
 mod items;
+mod lanes;
 mod limits;
 mod open_row;
 mod outcome;
@@ -21,7 +22,6 @@ mod streams;
 mod wait_rule;
 
 pub use blocks::{Blocks, Listed};
-use column::Held;
 pub use items::copy_items;
 pub use limits::{MAX_COLUMNS, MAX_LANES};
 pub use open_row::{OpenRow, Places};

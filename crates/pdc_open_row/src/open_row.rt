@@ -1,7 +1,7 @@
 //! The row of an instant that is open.
 ghost use Rattle.std.specs.Prelude.{◌≡◌, ◌+◌, ◌<◌, ◌≤◌, ◌++◌, drop, length, Some};
 ghost use Rattle.std.specs.Prelude.{if◌then◌else◌};
-ghost use Rattle.pdc_row.specs.Quality.{worst_of};
+ghost use Rattle.pdc_row.specs.Quality.{quality_of, worst_of};
 ghost use Rattle.pdc_row.specs.RowView.{row_view};
 ghost use Rattle.pdc_open_row.specs.Views.{at_age, blank_row, without_instant};
 ghost use Rattle.pdc_open_row.specs.Row.{blocks_of, qualities_of, row_of};
@@ -14,7 +14,7 @@ ghost use Rattle.pdc_open_row.specs.OpenRowParts.{worst_kept};
 
 use crate::blocks::Blocks;
 use crate::columns::Columns;
-use crate::row_blocks::{WORST_QUALITY, give};
+use crate::row_blocks::{WORST_QUALITY, give, quality_below};
 use crate::streams::{all_taken, falses};
 use crate::{MAX_COLUMNS, PutOutcome, RowLayout, WaitRule, copy_items};
 use arrayvec::ArrayVec;
@@ -195,6 +195,9 @@ impl OpenRow {
         if !self.has_second {
             return 0;
         }
+        if self.columns.are_one() {
+            return 0;
+        }
         let mut count = 0;
         for (place, shape) in layout.shapes.as_slice().iter().enumerate() {
             count += self.columns.disagreements_at(place, *shape);
@@ -263,16 +266,27 @@ impl OpenRow {
         ensures few { length blocks.new ≤ MAX_COLUMNS }
     {
         let shapes = layout.shapes.as_slice();
+        if let Some(above) = self.columns.give_whole(shapes, blocks) {
+            return quality_below(above);
+        }
+        self.fill_each(shapes, blocks)
+    }
+
+    /// The same, block after block. A call of its own, since it is seldom.
+    #[inline(never)]
+    fn fill_each(&self, shapes: &[Option<Shape>], blocks: &mut RowBlocks) -> u8
+        requires { length shapes.now ≤ MAX_COLUMNS }
+        ensures blocks { blocks.new ≡ blocks_of shapes.now self.now.columns }
+        ensures quality { result ≡ quality_of (qualities_of shapes.now self.now.columns) }
+        ensures fits { result ≤ WORST_QUALITY }
+        ensures few { length blocks.new ≤ MAX_COLUMNS }
+    {
         blocks.clear();
         let mut above = 0;
         for place in 0..shapes.len() {
             above = self.give_at(shapes, place, blocks, above);
         }
-        if above == 0 {
-            WORST_QUALITY
-        } else {
-            (above - 1) as u8
-        }
+        quality_below(above)
     }
 }
 

@@ -41,8 +41,11 @@ impl<P: Part> Blocks for Cut<'_, P> {
     ghost cells = { λ cut quality. cut_cells P.column_of P.shape_of cut.parts.now quality
         (words_in cut.bytes.now) };
 
+    /// Where they are laid out as the columns have them, they are put as a whole.
     fn put(&self, columns: &mut Columns, lane: usize, quality: u8, is_alone: bool) {
-        put_parts(self.parts, self.bytes, columns, lane, quality, is_alone);
+        if !columns.put_whole(lane, self.parts, self.bytes, quality) {
+            put_parts(self.parts, self.bytes, columns, lane, quality, is_alone);
+        }
     }
 
     fn conflict(&self, columns: &Columns, lane: usize, quality: u8) -> bool {
@@ -50,7 +53,8 @@ impl<P: Part> Blocks for Cut<'_, P> {
     }
 }
 
-/// Puts each block into its column, in this lane.
+/// Puts each block into its column, in this lane. A call of its own, since it is seldom.
+#[inline(never)]
 fn put_parts<P: Part>(
     parts: &[P],
     bytes: &[u8],

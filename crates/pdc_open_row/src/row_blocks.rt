@@ -1,13 +1,18 @@
 //! The blocks of a row, and the worst quality of them, as the row is written column after column.
-ghost use Rattle.std.specs.Prelude.{◌≡◌, ℕ, ◌+◌, ◌<◌, ◌≤◌, ◌++◌, ◌∷◌, List, length, []};
-ghost use Rattle.std.specs.Prelude.{option_map};
+ghost use Rattle.std.specs.Prelude.{◌≡◌, ℕ, ◌+◌, ◌<◌, ◌≤◌, ◌++◌, ◌∷◌, List, length, [], false, map};
+ghost use Rattle.std.specs.Prelude.{option_map, replicate, Some, slice_index_or, slice_set, true};
 ghost use Rattle.std.specs.Option.{option_to_list};
 ghost use Rattle.pdc_row.specs.Chosen.{block_or_absent};
-ghost use Rattle.pdc_row.specs.Quality.{time_quality_of, worst_of};
-ghost use Rattle.pdc_open_row.specs.OpenRowParts.{chosen_view, worst_kept};
+ghost use Rattle.pdc_row.specs.CellView.{BlockView};
+ghost use Rattle.pdc_row.specs.KeptBlocks.{shapes_of};
+ghost use Rattle.pdc_row.specs.Quality.{quality_of, time_quality_of, worst_of};
+ghost use Rattle.pdc_open_row.specs.Chosen.{block_in, chosen_of};
+ghost use Rattle.pdc_open_row.specs.OpenRowParts.{chosen_view, column_of, columns_of, worst_kept};
+ghost use Rattle.pdc_open_row.specs.Row.{blocks_of, qualities_of};
 
 use crate::MAX_COLUMNS;
-use crate::column::Chosen;
+use crate::column::{Chosen, Held};
+use crate::lanes::Lanes;
 use pdc_row::{RowBlocks, Shape};
 
 /// The worst time quality. A row in which no block is present has it.
@@ -27,7 +32,7 @@ pub fn give(chosen: Option<Chosen<'_>>, shape: Shape, blocks: &mut RowBlocks, ab
 {
     match chosen {
         Some(chosen) => {
-            chosen.cell.push_to(blocks);
+            blocks.push(&chosen.body);
             worse(above, chosen.quality % 16)
         }
         None => {
@@ -37,8 +42,116 @@ pub fn give(chosen: Option<Chosen<'_>>, shape: Shape, blocks: &mut RowBlocks, ab
     }
 }
 
+/// The quality of a row, whose worst one this number is above.
+#[inline(always)]
+pub fn quality_below(above: u32) -> u8
+    requires { above ≤ WORST_QUALITY + 1 }
+    ensures value { result ≡ worst_of (worst_kept above) [] }
+    ensures fits { result ≤ WORST_QUALITY }
+{
+    if above == 0 {
+        WORST_QUALITY
+    } else {
+        (above - 1) as u8
+    }
+}
+
+/// Whether each of these is a shape, and they are those of the blocks.
+pub fn are_shapes(wanted: &[Option<Shape>], shapes: &[Shape]) -> bool
+    ensures { result ≡ true → wanted.now ≡ map Some shapes.now }
+{
+    let Some((wanted, later)) = wanted.split_first() else {
+        return shapes.is_empty();
+    };
+    let Some((shape, shapes)) = shapes.split_first() else {
+        return false;
+    };
+    match wanted {
+        Some(wanted) => *wanted == *shape && are_shapes(later, shapes),
+        None => false,
+    }
+}
+
+/// The number above the quality of lane 0, where it has the same of each column and some block is present, else 0: lane 1 then gives nothing
+/// else.
+pub fn worst_of_one(held: Held, first: &RowBlocks) -> u32
+    requires first { held.first ≡ true }
+    ensures value { (second : List BlockView) → length second ≡ length first.now →
+        (held.alike ≡ false → held.second ≡ false) → worst_of (worst_kept result) [] ≡
+        quality_of (qualities_of (map Some (shapes_of first.now))
+        (columns_of (replicate (length first.now) held) first.now second)) }
+    ensures fits { result ≤ WORST_QUALITY + 1 }
+{
+    for place in 0..first.len() {
+        if first.is_present(place) {
+            return u32::from(held.first_quality % 16) + 1;
+        }
+    }
+    0
+}
+
+/// Writes what the columns give over blocks that are those of lane 0, whose shapes are wanted, and answers the number above the worst quality.
+pub fn give_over(held: &Lanes, first: &RowBlocks, second: &RowBlocks, blocks: &mut RowBlocks) -> u32
+    requires first { length first.now ≡ length held.now }
+    requires second { length second.now ≡ length held.now }
+    requires same { blocks.old ≡ first.now }
+    ensures blocks { blocks.new ≡ blocks_of (map Some (shapes_of first.now))
+        (columns_of held.now first.now second.now) }
+    ensures quality { worst_of (worst_kept result) [] ≡ quality_of (qualities_of
+        (map Some (shapes_of first.now)) (columns_of held.now first.now second.now)) }
+    ensures fits { result ≤ WORST_QUALITY + 1 }
+{
+    let shapes = first.shapes();
+    let mut above = 0;
+    for (place, shape) in shapes.iter().enumerate() {
+        above = give_one_over(held.at(place), first, second, place, *shape, blocks, above);
+    }
+    above
+}
+
+/// The same of the column at this place.
+#[inline(always)]
+fn give_one_over(
+    held: Held,
+    first: &RowBlocks,
+    second: &RowBlocks,
+    place: usize,
+    shape: Shape,
+    blocks: &mut RowBlocks,
+    above: u32,
+) -> u32
+    requires first { place < length first.now }
+    requires second { place < length second.now }
+    requires there { place < length blocks.old }
+    requires same { (default : BlockView) → slice_index_or blocks.old place default ≡
+        slice_index_or first.now place default }
+    requires above { above ≤ WORST_QUALITY + 1 }
+    ensures blocks { (default : BlockView) → blocks.new ≡ slice_set blocks.old place
+        (block_in shape (column_of held (slice_index_or first.now place default)
+        (slice_index_or second.now place default))) }
+    ensures quality { (default : BlockView) (ns : List ℕ) → worst_of (worst_kept result) ns ≡
+        worst_of (worst_kept above) (option_to_list (option_map time_quality_of
+        (chosen_of (column_of held (slice_index_or first.now place default)
+        (slice_index_or second.now place default)))) ++ ns) }
+    ensures fits { result ≤ WORST_QUALITY + 1 }
+{
+    if held.first && first.is_present(place) {
+        return worse(above, held.first_quality % 16);
+    }
+    match held.chosen(first, second, place) {
+        Some(chosen) => {
+            blocks.put(place, &chosen.body);
+            worse(above, chosen.quality % 16)
+        }
+        None => {
+            blocks.put_absent(place, shape);
+            above
+        }
+    }
+}
+
 /// The number above the worst quality so far, where this one is given too.
-#[inline]
+#[inline(always)]
 fn worse(above: u32, quality: u8) -> u32
     requires above { above ≤ WORST_QUALITY + 1 }
     requires quality { quality ≤ WORST_QUALITY }

@@ -1,5 +1,5 @@
 -- Blocks that are the same.
-use Rattle.std.proofs.Common.{◌≡◌, ◌&&◌, true, nat_eq, sym}
+use Rattle.std.proofs.Common.{◌≡◌, ◌∙◌, ◌&&◌, Bool, true, nat_eq, sym}
 use Rattle.std.specs.Cmp.Lexicographic.{pointwise, same_text}
 use Rattle.std.proofs.lemmas.Bool.{and_parts, eqb-true}
 use Rattle.pdc_block.proofs.pdc_cfg.Shapes.{same_shape as one_shape}
@@ -7,11 +7,18 @@ use Rattle.pdc_block.specs.pdc_cfg.declared.shape.Shape.{Shape}
 use Rattle.pdc_row.specs.CellView.{BlockView, same_block, same_shape}
 
 -- shapes whose numbers are the same
-shape_is : (a b : Shape) → same_shape a b ≡ true → a ≡ b
+pub shape_is : (a b : Shape) → same_shape a b ≡ true → a ≡ b
 shape_is a b e =
     let numbers = and_parts (nat_eq a.phasors b.phasors && nat_eq a.analogs b.analogs) (nat_eq a.digitals b.digitals) e in
     let first = and_parts (nat_eq a.phasors b.phasors) (nat_eq a.analogs b.analogs) numbers.0 in
     one_shape a b (eqb-true a.phasors b.phasors first.0) (eqb-true a.analogs b.analogs first.1) (eqb-true a.digitals b.digitals numbers.1)
+
+-- the same, where they were compared
+pub found_same : (alike : Bool) (a b : Shape) → alike ≡ (nat_eq a.phasors b.phasors && (nat_eq a.analogs b.analogs && nat_eq a.digitals b.digitals)) → alike ≡ true → a ≡ b
+found_same alike a b is_so e =
+    let first = and_parts (nat_eq a.phasors b.phasors) (nat_eq a.analogs b.analogs && nat_eq a.digitals b.digitals) (sym is_so ∙ e) in
+    let others = and_parts (nat_eq a.analogs b.analogs) (nat_eq a.digitals b.digitals) first.1 in
+    one_shape a b (eqb-true a.phasors b.phasors first.0) (eqb-true a.analogs b.analogs others.0) (eqb-true a.digitals b.digitals others.1)
 
 -- what is found the same is the same
 pub block_is : (a b : BlockView) → same_block a b ≡ true → a ≡ b

@@ -9,7 +9,6 @@
 #![tactic(auto)]
 
 mod block_copy;
-mod cell;
 mod copied;
 mod due_row;
 mod laws;
@@ -25,7 +24,6 @@ mod section;
 mod stamp;
 
 pub use block_copy::copy_block;
-pub use cell::Cell;
 pub use copied::{CopyFrom, copy_each};
 pub use due_row::DueRow;
 pub use laws::numbers_rise;

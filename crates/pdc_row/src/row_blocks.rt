@@ -1,14 +1,19 @@
 //! The blocks of a row, as the frame that goes out has them.
-ghost use Rattle.std.specs.Prelude.{◌≡◌, ◌∷◌, ◌++◌, ◌<◌, ◌≤◌, [], length, map};
-ghost use Rattle.pdc_row.specs.CellView.{absent_view, block_view};
-ghost use Rattle.pdc_row.specs.KeptBlocks.{AreWhole, bytes_of};
+ghost use Rattle.std.specs.Prelude.{◌≡◌, ◌∷◌, ◌++◌, ◌<◌, ◌≤◌, [], length, map, nat_eq};
+ghost use Rattle.std.specs.Prelude.{slice_index_or, slice_set, sum_by, true};
+ghost use Rattle.std.specs.Cmp.Lexicographic.{pointwise};
+ghost use Rattle.pdc_block.specs.Block.{body_len_of};
+ghost use Rattle.pdc_row.specs.CellView.{BlockView, absent_view, block_view, body_view};
+ghost use Rattle.pdc_row.specs.CellView.{is_present, same_block};
+ghost use Rattle.pdc_row.specs.KeptBlocks.{AreWhole, blocks_in, bytes_of, shapes_of};
 ghost use Rattle.pdc_row.specs.declared.limits.TheConstants.{MAX_PMUS};
 
-use crate::Offered;
 use crate::limits::MAX_PMUS;
 use crate::offered::are_bytes;
+use crate::present::has_data;
+use crate::{CopyFrom, Offered};
 use arrayvec::ArrayVec;
-use pdc_block::{Block, Shape, absent, bodies_are_their_words, cut};
+use pdc_block::{Block, Body, Shape, absent, bodies_are_their_words, cut};
 use std::fmt;
 use std::fmt::{Debug, Formatter};
 use std::marker::Model;
@@ -20,13 +25,15 @@ pub const MAX_BLOCKS_LEN: usize = 3424;
 pub const MAX_CUT: usize = MAX_PMUS + 1;
 
 /// The blocks of a row, at most 16: their shapes, and their bytes one after the other, as the payload of a data frame has them. So a row
-/// goes out by one copy. What stands behind them is left there.
+/// goes out by one copy, and the payload of a frame comes in by one. What stands behind them is left there.
 #[derive(Drop)]
 pub struct RowBlocks {
     /// How many there are.
     count: usize,
     /// Their shapes stand in front.
     shapes: [Shape; MAX_PMUS],
+    /// Where the bytes of each begin, and where those of the next one would.
+    starts: [u16; MAX_CUT],
     /// How many bytes they have.
     len: usize,
     /// Their bytes stand in front.
@@ -37,7 +44,7 @@ impl Model for RowBlocks {
     ghost use Rattle.std.specs.Prelude.{◌≡◌, ◌≤◌, List, length, sum_by, take};
     ghost use Rattle.pdc_block.specs.Block.{body_len_of};
     ghost use Rattle.pdc_row.specs.CellView.{BlockView};
-    ghost use Rattle.pdc_row.specs.KeptBlocks.{blocks_in};
+    ghost use Rattle.pdc_row.specs.KeptBlocks.{AreStarts, blocks_in};
     ghost use Rattle.pdc_row.specs.declared.limits.TheConstants.{MAX_PMUS};
     ghost use Rattle.pdc_row.specs.declared.row_blocks.TheConstants.{MAX_BLOCKS_LEN};
 
@@ -51,6 +58,7 @@ impl Model for RowBlocks {
       few : blocks.count ≤ MAX_PMUS;
       fits : blocks.len ≤ MAX_BLOCKS_LEN;
       size : blocks.len ≡ sum_by body_len_of (take blocks.count blocks.shapes);
+      begun : AreStarts blocks.count blocks.shapes blocks.starts;
     } };
 }
 
@@ -62,6 +70,7 @@ impl RowBlocks {
         RowBlocks {
             count: 0,
             shapes: [Shape::default(); MAX_PMUS],
+            starts: [0; MAX_CUT],
             len: 0,
             bytes: [0; MAX_BLOCKS_LEN],
         }
@@ -108,6 +117,7 @@ impl RowBlocks {
         self.len = end;
         self.shapes[self.count] = shape;
         self.count += 1;
+        self.starts[self.count] = end as u16;
     }
 
     /// Appends the absent block of a shape. A call of its own, since most blocks are present.
@@ -126,9 +136,118 @@ impl RowBlocks {
         RowBlocks {
             count: self.count,
             shapes: self.shapes,
+            starts: self.starts,
             len: self.len,
             bytes: self.bytes,
         }
+    }
+
+    /// Their shapes.
+    #[inline(always)]
+    pub fn shapes(&self) -> &[Shape]
+        ensures { result.now ≡ shapes_of self.now }
+    {
+        &self.shapes[..self.count]
+    }
+
+    /// The block at a place, lent.
+    #[inline(always)]
+    pub fn body(&self, place: usize) -> Body<'_>
+        requires { place < length self.now }
+        ensures { (default : BlockView) → body_view result ≡
+            slice_index_or self.now place default }
+    {
+        let _ = &self.count;
+        let start = usize::from(self.starts[place]);
+        let end = usize::from(self.starts[place + 1]);
+        Body {
+            shape: self.shapes[place],
+            bytes: &self.bytes[start..end],
+        }
+    }
+
+    /// Whether the block at a place is any other than the absent block of its shape.
+    #[inline(always)]
+    pub fn is_present(&self, place: usize) -> bool
+        requires { place < length self.now }
+        ensures { (default : BlockView) → result ≡
+            is_present (slice_index_or self.now place default) }
+    {
+        let body = self.body(place);
+        has_data(body.shape, body.bytes)
+    }
+
+    /// Whether the block at a place has the shape and the words of this one.
+    #[inline(always)]
+    pub fn holds<B: Offered>(&self, place: usize, block: &B) -> bool
+        requires { place < length self.now }
+        ensures { (default : BlockView) → result ≡
+            same_block (slice_index_or self.now place default) (B.view block.now) }
+    {
+        let body = self.body(place);
+        body.shape == block.shape() && block.has_bytes(body.bytes)
+    }
+
+    /// Puts a block to a place, over the one that is there. Where both have one shape, its bytes are written to where they stay.
+    #[inline(always)]
+    pub fn put<B: Offered>(&mut self, place: usize, block: &B)
+        requires { place < length self.old }
+        ensures { self.new ≡ slice_set self.old place (B.view block.now) }
+    {
+        let _ = &self.count;
+        if self.shapes[place] == block.shape() {
+            let start = usize::from(self.starts[place]);
+            let end = usize::from(self.starts[place + 1]);
+            block.write_bytes(&mut self.bytes[start..end]);
+        } else {
+            self.put_anew(place, block);
+        }
+    }
+
+    /// The same where the bytes of those behind it get other places. A call of its own, since it is seldom.
+    #[inline(never)]
+    fn put_anew<B: Offered>(&mut self, place: usize, block: &B)
+        requires { place < length self.old }
+        ensures { self.new ≡ slice_set self.old place (B.view block.now) }
+    {
+        self.are_few();
+        let mut blocks = RowBlocks::new();
+        for at in 0..self.len() {
+            if at == place {
+                blocks.push(block);
+            } else {
+                blocks.push(&self.body(at));
+            }
+        }
+        *self = blocks;
+    }
+
+    /// Puts the absent block of a shape to a place. A call of its own, since most blocks are present.
+    #[inline(never)]
+    pub fn put_absent(&mut self, place: usize, shape: Shape)
+        requires { place < length self.old }
+        ensures { self.new ≡ slice_set self.old place (absent_view shape) }
+    {
+        self.put(place, &absent(shape));
+    }
+
+    /// Writes these bytes, which are as many, over those of the blocks, of which each keeps its shape.
+    #[inline(always)]
+    pub fn write_over(&mut self, bytes: &[u8])
+        requires { length bytes.now ≡ sum_by body_len_of (shapes_of self.old) }
+        ensures { self.new ≡ blocks_in (shapes_of self.old) bytes.now }
+    {
+        self.bytes[..self.len].copy_from_slice(bytes);
+    }
+
+    /// Whether these are the bytes of the blocks: then they are those that the bytes write in their shapes.
+    #[inline(always)]
+    pub fn has_bytes(&self, bytes: &[u8]) -> bool
+        ensures value { result ≡ pointwise nat_eq (bytes_of self.now) bytes.now }
+        ensures same { result ≡ true → blocks_in (shapes_of self.now) bytes.now ≡ self.now }
+    {
+        self.are_whole();
+        self.bytes() == bytes
     }
 
     /// The bytes of the blocks, one after the other.
@@ -152,6 +271,14 @@ impl RowBlocks {
         are_bytes(&self.bytes[..self.len]);
     }
 
+    /// There are at most 16. A call of this law does nothing.
+    #[inline(always)]
+    fn are_few(&self)
+        ensures { length self.now ≤ MAX_PMUS }
+    {
+        let _ = &self.count;
+    }
+
     /// The blocks, each by itself, for who looks into them. It takes no memory.
     pub fn to_blocks(&self) -> ArrayVec<Block, MAX_CUT>
         ensures { map block_view result.items ≡ self.now }
@@ -163,6 +290,17 @@ impl RowBlocks {
             Ok(blocks) => blocks,
             Err(_) => ArrayVec::new(),
         }
+    }
+}
+
+impl CopyFrom for RowBlocks {
+    /// Of their bytes as many are copied as there are.
+    fn copy_from(&mut self, other: &RowBlocks) {
+        self.count = other.count;
+        self.shapes = other.shapes;
+        self.starts = other.starts;
+        self.len = other.len;
+        self.bytes[..other.len].copy_from_slice(&other.bytes[..other.len]);
     }
 }
 

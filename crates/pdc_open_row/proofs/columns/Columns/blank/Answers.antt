@@ -4,5 +4,5 @@ use Rattle.pdc_open_row.proofs.columns.Columns.blank.Goals as goal
 
 pub returns : goal.returns
 returns c =
-    rw c.nothings.ensures (columns_emptied c.args.count c.from_fn.result c.from_fn-2.result
-    (omega (arith, c.requires, c.from_fn.ensures.items.long)) (omega (arith, c.requires, c.from_fn-2.ensures.items.long)))
+    rw c.blank.ensures (columns_emptied c.args.count c.blank_blocks.result c.blank_blocks-2.result
+    (omega (arith, c.blank_blocks.ensures)) (omega (arith, c.blank_blocks-2.ensures)))

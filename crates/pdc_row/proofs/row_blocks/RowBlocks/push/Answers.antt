@@ -4,6 +4,7 @@ use Rattle.pdc_block.specs.pdc_cfg.declared.shape.Shape.{Shape}
 use Rattle.pdc_row.specs.CellView.{BlockView}
 use Rattle.pdc_row.specs.KeptBlocks.{blocks_in}
 use Rattle.pdc_row.proofs.KeptLemmas.{kept, one_more, pushed, room, sum_more, written_behind}
+use Rattle.pdc_row.proofs.PlacedBlocks.{begun_more}
 use Rattle.pdc_row.proofs.row_blocks.RowBlocks.push.Goals as goal
 
 pub overflow_add-end : goal.overflow_add-end
@@ -27,6 +28,12 @@ bounds-self-inside-self-inside g c =
     let few : i.count < 16 = omega (arith, c.requires, ap length c.self.view_is, kept i.count i.shapes (take i.len i.bytes) (omega (arith, c.self.invariant.few, c.self.invariant.places))) in
     few
 
+pub bounds-self-inside-self-inside-2 : goal.bounds-self-inside-self-inside-2
+bounds-self-inside-self-inside-2 g c =
+    let i = c.self.inside in
+    let few : i.count < 16 = omega (arith, c.requires, ap length c.self.view_is, kept i.count i.shapes (take i.len i.bytes) (omega (arith, c.self.invariant.few, c.self.invariant.places))) in
+    omega (arith, few)
+
 pub invariant_of-self : goal.invariant_of-self
 invariant_of-self g c =
     let i = c.self.inside in
@@ -36,6 +43,9 @@ invariant_of-self g c =
       few = omega (arith, few);
       fits = room i.count i.len c.word_count.result i.shapes c.shape-shape.result few c.self.invariant.places c.self.invariant.size c.word_count.ensures.value;
       size = sum_more i.count i.len c.word_count.result i.shapes c.shape-shape.result (omega (arith, few, c.self.invariant.places)) c.self.invariant.size c.word_count.ensures.value;
+      begun =
+          begun_more i.count i.len c.word_count.result i.shapes i.starts c.shape-shape.result (omega (arith, few, c.self.invariant.places)) (omega (arith, few, c.self.told)) c.self.invariant.size c.word_count.ensures.value
+          c.self.invariant.begun;
     }
 
 pub returns : goal.returns

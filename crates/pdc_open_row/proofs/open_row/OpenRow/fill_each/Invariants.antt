@@ -2,7 +2,7 @@ use Rattle.std.proofs.Common.{◌≡◌, ◌≤◌, ◌++◌, length, drop}
 use Rattle.pdc_open_row.specs.OpenRowParts.{worst_kept}
 use Rattle.pdc_open_row.specs.Row.{blocks_of, qualities_of}
 use Rattle.pdc_row.specs.Quality.{worst_of, quality_of}
-use Rattle.pdc_open_row.proofs.open_row.OpenRow.fill.Given as goal
+use Rattle.pdc_open_row.proofs.open_row.OpenRow.fill_each.Given as goal
 
 -- the blocks so far, and those of the columns that are left; the worst quality so far, and those that are left
 abbrev pub invariant-loop-place : goal.invariant-loop-place

@@ -1,0 +1,14 @@
+use Rattle.std.proofs.Common.{◌≡◌, ◌≤◌, ◌++◌, Some, drop, map, take}
+use Rattle.pdc_row.specs.KeptBlocks.{shapes_of}
+use Rattle.pdc_row.specs.Quality.{quality_of, worst_of}
+use Rattle.pdc_open_row.specs.OpenRowParts.{columns_of, worst_kept}
+use Rattle.pdc_open_row.specs.Row.{blocks_of, qualities_of}
+use Rattle.pdc_open_row.proofs.row_blocks.give_over.Given as goal
+
+-- as many as were looked at are those that the columns give, the others are those of lane 0
+abbrev pub invariant-loop-place : goal.invariant-loop-place
+invariant-loop-place l = record {
+  blocks : l.blocks ≡ take l.place (blocks_of (map Some (shapes_of l.first)) (columns_of l.held l.first l.second)) ++ drop l.place l.first;
+  quality : worst_of (worst_kept l.above) (qualities_of (drop l.place (map Some (shapes_of l.first))) (drop l.place (columns_of l.held l.first l.second))) ≡ quality_of (qualities_of (map Some (shapes_of l.first)) (columns_of l.held l.first l.second));
+  fits : l.above ≤ 16;
+}
