@@ -1,8 +1,9 @@
 -- What contracts see of an arrival that was kept.
-use Rattle.std.specs.Prelude.{◌≡◌, ℕ, Bool, true, false, List, length, map, nat_le, option_map}
+use Rattle.std.specs.Prelude.{◌≡◌, ◌==◌, ℕ, Bool, true, false, List, length, map, nat_le, option_map}
 use Rattle.pdc_align.specs.pdc_cfg.Section.{SectionFields, fields_of_section}
 use Rattle.pdc_core.specs.declared.payload.Payload.{Payload}
 use Rattle.pdc_core.specs.declared.payload.Payload.TheVariants as payload
+use Rattle.pdc_core.specs.declared.payload.TheConstants.{SHORT_PAYLOAD}
 use Rattle.pdc_core.specs.declared.kept_layout.KeptSection.{KeptSection}
 use Rattle.pdc_core.specs.declared.kept_arrival.KeptArrival.{KeptArrival as KeptArrivalData}
 use Rattle.pdc_core.specs.declared.kept_arrival.KeptArrival.TheVariants as taken
@@ -13,6 +14,12 @@ use Rattle.pdc_memory.specs.Asking.{WasRefused}
 abbrev pub bytes_of : Payload → List ℕ
 bytes_of (payload.Short bytes) = bytes
 bytes_of (payload.Long bytes) = bytes.items
+
+-- these bytes can be written over its own with no memory: over those in place where there is room for them there, over those on the heap
+-- where they are as many
+abbrev pub can_hold : Payload → List ℕ → Bool
+can_hold (payload.Short own) bytes = nat_le (length bytes) SHORT_PAYLOAD
+can_hold (payload.Long own) bytes = length bytes == length own.items
 
 abbrev pub kept_part : KeptSection → ℕ × SectionFields
 kept_part kept = (kept.column, fields_of_section kept.section)

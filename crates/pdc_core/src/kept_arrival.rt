@@ -205,26 +205,13 @@ impl KeptArrival {
                 return Ok(());
             }
         }
-        self.renew_data(alloc, instant, quality, payload)
-    }
-
-    /// The same where nothing can be written over. A call of its own, since it is seldom.
-    #[inline(never)]
-    fn renew_data(
-        &mut self,
-        alloc: Global,
-        instant: u64,
-        quality: u8,
-        payload: &[u8],
-    ) -> Result<(), AllocError>
-        ensures same { OnOk result (taken_view self.new ≡ Data instant quality payload.now) }
-        ensures refused { OnErr result (WasRefused (length payload.now)) }
-        ensures in_place { takes_no_memory (Data instant quality payload.now) ≡ true →
-            IsOk result }
-        ensures err { OnErr result (self.new ≡ self.old) }
-    {
-        *self = KeptArrival::keep_data(alloc, instant, quality, payload)?;
-        Ok(())
+        // Nothing can be written over, which is seldom: a call of its own. Data has no column.
+        let reading = Reading::Data {
+            instant,
+            quality,
+            payload,
+        };
+        self.set_reading(alloc, 0, &reading)
     }
 
     /// Makes this a copy of what is read of a PMU, whose configuration is of this column.

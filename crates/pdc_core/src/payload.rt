@@ -1,7 +1,7 @@
 //! The payload of data that is kept.
 ghost use Rattle.std.specs.Prelude.{◌≡◌, ◌≤◌, [], IfOk, IsOk, OnErr, false, length, true};
 ghost use Rattle.pdc_memory.specs.Asking.{WasRefused};
-ghost use Rattle.pdc_core.specs.KeptArrival.{bytes_of};
+ghost use Rattle.pdc_core.specs.KeptArrival.{bytes_of, can_hold};
 ghost use Rattle.pdc_core.specs.declared.payload.TheConstants.{SHORT_PAYLOAD};
 
 use pdc_align::copy_block;
@@ -98,10 +98,11 @@ impl Payload {
         Ok(Payload::Long(Held::copy_of(alloc, bytes)?))
     }
 
-    /// Writes these bytes over those that it has, where that takes no memory: where they lie in place as those do, or are as many as those on
-    /// the heap. Whether it did; else it stays as it was.
+    /// Writes these bytes over those that it has, where that takes no memory: at most 214 over bytes in place, and over bytes on the heap
+    /// as many as those. Whether it did; else it stays as it was.
     #[inline(always)]
     pub fn set(&mut self, bytes: &[u8]) -> bool
+        ensures when { result ≡ can_hold self.old bytes.now }
         ensures value { result ≡ true → bytes_of self.new ≡ bytes.now }
         ensures none { result ≡ false → self.new ≡ self.old }
     {
