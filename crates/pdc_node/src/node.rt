@@ -6,7 +6,7 @@ ghost use Rattle.pdc_arrival.specs.Counts.{after_answer};
 ghost use Rattle.pdc_core.specs.Fits.{fits_node};
 ghost use Rattle.pdc_core.specs.KeptArrival.{taken_view};
 ghost use Rattle.pdc_life.specs.Answer.{ToArrive, answered};
-ghost use Rattle.pdc_life.specs.Arrival.{Data};
+ghost use Rattle.pdc_life.specs.Arrival.{BytesRefused, Data};
 ghost use Rattle.pdc_life.specs.CoreKind.{given_of, OfNode, Says};
 ghost use Rattle.pdc_life.specs.Given.{Given};
 ghost use Rattle.pdc_life.specs.Life.{Entry};
@@ -16,11 +16,13 @@ ghost use Rattle.pdc_node.specs.Node.{StandsFor};
 
 use crate::answering;
 use crate::opens::copy_of;
-use pdc_align::{Alignment, Plan, Ticked, append_layout_frame};
+use pdc_align::{Alignment, Plan, Ticked, append_layout_frame, others_are_left};
 use pdc_arrival::{Arrival, Counts, arrival_from_pmu, hear_from_pmu};
 use pdc_core::{Core, KeptArrival};
 use pdc_frame::Buffer;
-use pdc_life::{MAX_PMUS, Outcome, Reading, SectionView, Settings, lives_are_runs, rows_have_tags};
+use pdc_life::{
+    MAX_PMUS, Outcome, Reading, Refusal, SectionView, Settings, lives_are_runs, rows_have_tags,
+};
 use pdc_table::{DueRow, Table};
 use std::alloc::{AllocError, Global};
 use std::marker::Model;
@@ -131,7 +133,28 @@ impl<T: Table> Node<T> {
         outcome
     }
 
-    /// Answers what was kept of an arrival. It stands apart, so that data does not pay for an [`Arrival`].
+    /// Answers refused bytes, of whatever stream: they are counted, and nothing else changes.
+    fn arrive_refused(&mut self, refusal: Refusal) -> Outcome
+        ensures answer { (g : Given) (E : List Entry) (stream : ℕ) → StandsFor g E self.old →
+            result ≡ (node_answer g E stream (BytesRefused refusal)).outcome }
+        ensures stands { (g : Given) (E : List Entry) (stream : ℕ) (bytes : List ℕ) →
+            Says (OfNode self.old.settings) stream bytes (BytesRefused refusal) →
+            StandsFor g E self.old →
+            StandsFor g (answered node_answer g E (ToArrive stream bytes (BytesRefused refusal)) ∷
+            E) self.new }
+        ensures counts { self.new.counts ≡ after_answer result self.old.counts }
+        ensures popped { self.new.popped ≡ self.old.popped }
+        ensures settings { self.new.settings ≡ self.old.settings }
+        ensures memory { self.new.memory ≡ self.old.memory }
+    {
+        lives_are_runs();
+        others_are_left();
+        let outcome = Outcome::Refused(refusal);
+        self.counts.count(outcome);
+        outcome
+    }
+
+    /// Answers what was kept of an arrival. It stands apart, so that data and refused bytes do not pay for an [`Arrival`].
     #[inline(never)]
     fn arrive_whole(&mut self, stream: usize, taken: &KeptArrival) -> Outcome
         requires { fits_node self.old.settings stream (taken_view taken.now) ≡ true }
@@ -199,7 +222,7 @@ impl<T: Table> Core for Node<T> {
         outcome
     }
 
-    /// Data is answered as it was kept: an [`Arrival`] has room for all sections of a layout, and is made for what else there is.
+    /// Data and refused bytes are answered as they were kept: an [`Arrival`] has room for all sections of a layout, and is made for those alone.
     fn arrive_kept(&mut self, stream: usize, taken: &KeptArrival) -> Outcome {
         match taken {
             KeptArrival::Data {
@@ -207,11 +230,13 @@ impl<T: Table> Core for Node<T> {
                 quality,
                 payload,
             } => self.arrive_data(stream, *instant, *quality, payload.as_slice()),
-            _ => self.arrive_whole(stream, taken),
+            KeptArrival::BytesRefused(refusal) => self.arrive_refused(*refusal),
+            KeptArrival::Layout(_) => self.arrive_whole(stream, taken),
         }
     }
 
-    /// Data is answered as it was read: an [`Arrival`] has room for all sections of a layout, and is made for configurations alone.
+    /// Data and refused bytes are answered as they were read: an [`Arrival`] has room for all sections of a layout, and is made for
+    /// configurations alone.
     fn put_datagram(&mut self, stream: usize, bytes: &[u8]) -> Outcome {
         match hear_from_pmu(&self.settings, stream, bytes) {
             Reading::Data {
@@ -219,6 +244,7 @@ impl<T: Table> Core for Node<T> {
                 quality,
                 payload,
             } => self.arrive_data(stream, instant, quality, payload),
+            Reading::BytesRefused(refusal) => self.arrive_refused(refusal),
             reading => self.arrive_read(stream, reading),
         }
     }

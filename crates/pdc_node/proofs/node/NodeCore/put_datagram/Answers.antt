@@ -1,5 +1,5 @@
 use Rattle.std.proofs.Common.{◌≡◌, ℕ, List, subst}
-use Rattle.pdc_life.specs.Arrival.{Arrival, Data}
+use Rattle.pdc_life.specs.Arrival.{Arrival, BytesRefused, Data}
 use Rattle.pdc_life.specs.CoreKind.{OfNode, Says}
 use Rattle.pdc_life.specs.Views.{arrival_view as reading_view}
 use Rattle.pdc_life.specs.declared.reading.Reading.{Reading}
@@ -20,6 +20,17 @@ returns-in-Data-clause-hears g c =
       says = said;
       answer = c.arrive_data.ensures.answer;
       stands = λ h E before. c.arrive_data.ensures.stands h E c.args.bytes.now said before;
+    }
+
+pub returns-in-BytesRefused-clause-hears : goal.returns-in-BytesRefused-clause-hears
+returns-in-BytesRefused-clause-hears g c =
+    let said : Says (OfNode c.args.self.now.settings) c.args.stream c.args.bytes.now (BytesRefused c.in-BytesRefused.refusal) =
+    subst (λ (r : Reading SectionView). Says (OfNode c.args.self.now.settings) c.args.stream c.args.bytes.now (reading_view c.args.stream r)) c.in-BytesRefused.is (read_by _ _ c.args.stream c.args.bytes.now (reading_view c.args.stream c.hear_from_pmu.result) c.self.view_is c.hear_from_pmu.ensures) in
+    record {
+      arrival = BytesRefused c.in-BytesRefused.refusal;
+      says = said;
+      answer = λ h E before. c.arrive_refused.ensures.answer h E c.args.stream before;
+      stands = λ h E before. c.arrive_refused.ensures.stands h E c.args.stream c.args.bytes.now said before;
     }
 
 pub returns-in_default-clause-hears : goal.returns-in_default-clause-hears
