@@ -1,3 +1,4 @@
+mod Heard
 mod Placed
 mod ByLayout
 mod Lives

@@ -6,7 +6,7 @@ ghost use Rattle.pdc_core.specs.KeptArrival.{taken_view};
 ghost use Rattle.pdc_align.specs.Align.{given_by};
 ghost use Rattle.pdc_arrival.specs.Counts.{after_answer};
 ghost use Rattle.pdc_life.specs.Answer.{ToArrive, answered};
-ghost use Rattle.pdc_life.specs.Arrival.{Data};
+ghost use Rattle.pdc_life.specs.Arrival.{BytesRefused, Data};
 ghost use Rattle.pdc_life.specs.CoreKind.{given_of, OfMerger, Says};
 ghost use Rattle.pdc_life.specs.Given.{Given};
 ghost use Rattle.pdc_life.specs.Life.{Entry};
@@ -16,11 +16,11 @@ ghost use Rattle.pdc_merge.specs.Merger.{StandsFor};
 use crate::answering;
 use crate::layouts::HeldLayouts;
 use crate::opens::copy_of_merger;
-use pdc_align::{Alignment, Plan, Ticked, append_layout_frame};
+use pdc_align::{Alignment, Plan, Ticked, append_layout_frame, others_are_left};
 use pdc_arrival::{Arrival, Counts, Reading, arrival_from_node, hear_from_node};
 use pdc_core::{Core, KeptArrival};
 use pdc_frame::Buffer;
-use pdc_life::{MAX_PMUS, MergerSettings, Outcome, lives_are_runs, rows_have_tags};
+use pdc_life::{MAX_PMUS, MergerSettings, Outcome, Refusal, lives_are_runs, rows_have_tags};
 use pdc_table::{DueRow, Table};
 use std::alloc::{AllocError, Global};
 use std::marker::Model;
@@ -136,7 +136,28 @@ impl<T: Table> Merger<T> {
         outcome
     }
 
-    /// Answers what was kept of an arrival. It stands apart, so that data does not pay for an [`Arrival`].
+    /// Answers refused bytes, of whatever stream: they are counted, and nothing else changes.
+    fn arrive_refused(&mut self, refusal: Refusal) -> Outcome
+        ensures answer { (g : Given) (E : List Entry) (stream : ℕ) → StandsFor g E self.old →
+            result ≡ (merged_answer g E stream (BytesRefused refusal)).outcome }
+        ensures stands { (g : Given) (E : List Entry) (stream : ℕ) (bytes : List ℕ) →
+            Says (OfMerger self.old.settings) stream bytes (BytesRefused refusal) →
+            StandsFor g E self.old →
+            StandsFor g (answered merged_answer g E
+            (ToArrive stream bytes (BytesRefused refusal)) ∷ E) self.new }
+        ensures counts { self.new.counts ≡ after_answer result self.old.counts }
+        ensures popped { self.new.popped ≡ self.old.popped }
+        ensures settings { self.new.settings ≡ self.old.settings }
+        ensures memory { self.new.memory ≡ self.old.memory }
+    {
+        lives_are_runs();
+        others_are_left();
+        let outcome = Outcome::Refused(refusal);
+        self.counts.count(outcome);
+        outcome
+    }
+
+    /// Answers what was kept of an arrival. It stands apart, so that data and refused bytes do not pay for an [`Arrival`].
     #[inline(never)]
     fn arrive_whole(&mut self, stream: usize, taken: &KeptArrival) -> Outcome
         requires { fits_merger self.old.settings stream (taken_view taken.now) ≡ true }
@@ -191,7 +212,7 @@ impl<T: Table> Core for Merger<T> {
         outcome
     }
 
-    /// Data is answered as it was kept: an [`Arrival`] has room for all sections of a layout, and is made for what else there is.
+    /// Data and refused bytes are answered as they were kept: an [`Arrival`] has room for all sections of a layout, and is made for those alone.
     fn arrive_kept(&mut self, stream: usize, taken: &KeptArrival) -> Outcome {
         match taken {
             KeptArrival::Data {
@@ -199,11 +220,13 @@ impl<T: Table> Core for Merger<T> {
                 quality,
                 payload,
             } => self.arrive_data(stream, *instant, *quality, payload.as_slice()),
-            _ => self.arrive_whole(stream, taken),
+            KeptArrival::BytesRefused(refusal) => self.arrive_refused(*refusal),
+            KeptArrival::Layout(_) => self.arrive_whole(stream, taken),
         }
     }
 
-    /// Data is answered as it was read: an [`Arrival`] has room for all sections of a layout, and is made for configurations alone.
+    /// Data and refused bytes are answered as they were read: an [`Arrival`] has room for all sections of a layout, and is made for
+    /// configurations alone.
     fn put_datagram(&mut self, stream: usize, bytes: &[u8]) -> Outcome {
         match hear_from_node(&self.settings, stream, bytes) {
             Reading::Data {
@@ -211,6 +234,7 @@ impl<T: Table> Core for Merger<T> {
                 quality,
                 payload,
             } => self.arrive_data(stream, instant, quality, payload),
+            Reading::BytesRefused(refusal) => self.arrive_refused(refusal),
             heard => {
                 let arrival = arrival_from_node(&self.settings, stream, heard);
                 self.arrive(stream, &arrival)

@@ -13,3 +13,12 @@ returns-in-Data-clause-stands g c h E bytes =
     ap (λ (l : List ℕ). Data c.in-Data.instant c.in-Data.quality l) c.as_slice.ensures ∙ ap taken_view (sym c.in-Data.is) in
     subst (λ (a : Arrival). Says (OfMerger c.args.self.now.settings) c.args.stream bytes a → StandsFor h E c.args.self.now → StandsFor h (answered merged_answer h E (ToArrive c.args.stream bytes a) ∷ E) c.arrive_data.new.self)
     same (c.arrive_data.ensures.stands h E bytes)
+
+pub returns-in-BytesRefused-clause-answer : goal.returns-in-BytesRefused-clause-answer
+returns-in-BytesRefused-clause-answer g c h E stands =
+    c.arrive_refused.ensures.answer h E c.args.stream stands ∙ ap (λ (a : Arrival). (merged_answer h E c.args.stream a).outcome) (ap taken_view (sym c.in-BytesRefused.is))
+
+pub returns-in-BytesRefused-clause-stands : goal.returns-in-BytesRefused-clause-stands
+returns-in-BytesRefused-clause-stands g c h E bytes =
+    subst (λ (a : Arrival). Says (OfMerger c.args.self.now.settings) c.args.stream bytes a → StandsFor h E c.args.self.now → StandsFor h (answered merged_answer h E (ToArrive c.args.stream bytes a) ∷ E) c.arrive_refused.new.self)
+    (ap taken_view (sym c.in-BytesRefused.is)) (c.arrive_refused.ensures.stands h E c.args.stream bytes)

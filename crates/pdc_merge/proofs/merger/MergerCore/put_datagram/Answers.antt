@@ -1,13 +1,14 @@
 use Rattle.std.proofs.Common.{◌≡◌, subst, true}
 use Rattle.pdc_core.specs.Fits.{fits_merger}
 use Rattle.pdc_core.specs.Said.{said_fits_merger}
-use Rattle.pdc_life.specs.Arrival.{Data}
+use Rattle.pdc_life.specs.Arrival.{BytesRefused, Data}
 use Rattle.pdc_life.specs.CoreKind.{OfMerger, Says}
-use Rattle.pdc_arrival.specs.Heard.{SaysData}
+use Rattle.pdc_arrival.specs.Heard.{HearsForMerger, SaysData}
 use Rattle.pdc_arrival.specs.Views.{arrival_view}
 use Rattle.pdc_frame.specs.declared.frame.Frame.{Frame}
 use Rattle.pdc_life.specs.declared.reading.Reading.{Reading}
 use Rattle.pdc_merge.specs.Merger.{MergerView}
+use Rattle.pdc_merge.proofs.Heard.{refused_said}
 use Rattle.pdc_merge.proofs.merger.MergerCore.put_datagram.Goals as goal
 
 pub arrive-requires : goal.arrive-requires
@@ -26,6 +27,19 @@ returns-in-Data-clause-hears g c =
       says = said;
       answer = c.arrive_data.ensures.answer;
       stands = λ h E before. c.arrive_data.ensures.stands h E c.args.bytes.now said before;
+    }
+
+pub returns-in-BytesRefused-clause-hears : goal.returns-in-BytesRefused-clause-hears
+returns-in-BytesRefused-clause-hears g c =
+    let said : Says (OfMerger c.args.self.now.settings) c.args.stream c.args.bytes.now (BytesRefused c.in-BytesRefused.refusal) =
+    subst (λ (m : MergerView). Says (OfMerger m.settings) c.args.stream c.args.bytes.now (BytesRefused c.in-BytesRefused.refusal)) c.self.view_is
+    (refused_said c.self.inside.settings c.args.stream c.args.bytes.now c.in-BytesRefused.refusal c.requires
+    (subst (λ (h : Reading Frame). HearsForMerger c.self.inside.settings c.args.stream c.args.bytes.now h) c.in-BytesRefused.is c.hear_from_node.ensures.heard)) in
+    record {
+      arrival = BytesRefused c.in-BytesRefused.refusal;
+      says = said;
+      answer = λ h E before. c.arrive_refused.ensures.answer h E c.args.stream before;
+      stands = λ h E before. c.arrive_refused.ensures.stands h E c.args.stream c.args.bytes.now said before;
     }
 
 pub returns-in_default : goal.returns-in_default
