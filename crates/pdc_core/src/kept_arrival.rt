@@ -7,7 +7,7 @@ ghost use Rattle.pdc_align.specs.pdc_life.Arrival.{Data, Layout};
 ghost use Rattle.pdc_align.specs.pdc_cfg.Section.{fields_of_view};
 ghost use Rattle.pdc_align.specs.pdc_life.Views.{arrival_view as reading_view};
 
-use crate::{KeptLayout, KeptSection, Payload, ShortPayload};
+use crate::{KeptLayout, KeptSection, Payload, SHORT_PAYLOAD, ShortPayload};
 use arrayvec::ArrayVec;
 use pdc_align::{Arrival, ColumnSection, MAX_PMUS, Reading, Refusal, SectionView};
 use pdc_memory::Held;
@@ -231,7 +231,22 @@ impl KeptArrival {
         ensures in_place { takes_no_memory (reading_view column reading.now) ≡ true → IsOk result }
         ensures err { OnErr result (self.new ≡ self.old) }
     {
-        *self = KeptArrival::keep_reading(alloc, column, reading)?;
+        // What lies in place is written at once: a result of it would be moved several times.
+        match reading {
+            Reading::BytesRefused(refusal) => *self = KeptArrival::BytesRefused(*refusal),
+            Reading::Data {
+                instant,
+                quality,
+                payload,
+            } if payload.len() <= SHORT_PAYLOAD => {
+                *self = KeptArrival::Data {
+                    instant: *instant,
+                    quality: *quality,
+                    payload: Payload::in_place(payload),
+                };
+            }
+            _ => *self = KeptArrival::keep_reading(alloc, column, reading)?,
+        }
         Ok(())
     }
 

@@ -91,11 +91,20 @@ impl Payload {
         ensures refused { OnErr result (WasRefused (length bytes.now)) }
     {
         if bytes.len() <= SHORT_PAYLOAD {
-            let mut short = ShortPayload::new();
-            short.set(bytes);
-            return Ok(Payload::Short(short));
+            return Ok(Payload::in_place(bytes));
         }
         Ok(Payload::Long(Held::copy_of(alloc, bytes)?))
+    }
+
+    /// A copy of at most 214 bytes, in place.
+    #[inline(always)]
+    pub(crate) fn in_place(bytes: &[u8]) -> Payload
+        requires { length bytes.now ≤ SHORT_PAYLOAD }
+        ensures { bytes_of result ≡ bytes.now }
+    {
+        let mut short = ShortPayload::new();
+        short.set(bytes);
+        Payload::Short(short)
     }
 
     /// Writes these bytes over those that it has, where that takes no memory: at most 214 over bytes in place, and over bytes on the heap
