@@ -231,3 +231,49 @@ none_disagree_once shapes columns hs h fs ss seen one e =
 pub or_last : (a b : Bool) → b ≡ true → (a || b) ≡ true
 or_last true b e = refl
 or_last false b e = e
+
+empty_shown : (h : Held) (f s : BlockView) → h.first ≡ false → h.second ≡ false → column_of h f s ≡ empty_column
+empty_shown h f s e k = rw (e, k) refl
+
+-- where nothing is held, it does not matter which blocks stand there
+pub nothing_shown : (n : ℕ) (h : Held) (fs ss : List BlockView) → h.first ≡ false → h.second ≡ false → length fs ≡ n → length ss ≡ n → columns_of (replicate n h) fs ss ≡ replicate n empty_column
+nothing_shown zero h fs ss e k a b = refl
+nothing_shown (suc n) h [] ss e k a b = absurd (omega (arith, a))
+nothing_shown (suc n) h (f ∷ fs) [] e k a b = absurd (omega (arith, b))
+nothing_shown (suc n) h (f ∷ fs) (s ∷ ss) e k a b =
+    ap (λ column. column ∷ columns_of (replicate n h) fs ss) (empty_shown h f s e k)
+    ∙ ap (λ columns. empty_column ∷ columns) (nothing_shown n h fs ss e k (omega (arith, a)) (omega (arith, b)))
+
+pub laid_out_again : (columns : List ColumnView) (hs : List Held) (h : Held) (fs ss gs ts : List BlockView) → columns_of hs fs ss ≡ columns → hs ≡ replicate (length hs) h → h.first ≡ false → h.second ≡ false
+    → length fs ≡ length hs → length ss ≡ length hs → length gs ≡ length hs → length ts ≡ length hs → columns_of hs gs ts ≡ columns
+laid_out_again columns hs h fs ss gs ts seen one e k a b c d =
+    ap (λ (xs : List Held). columns_of xs gs ts) one
+    ∙ nothing_shown (length hs) h gs ts e k c d
+    ∙ sym (nothing_shown (length hs) h fs ss e k a b)
+    ∙ ap (λ (xs : List Held). columns_of xs fs ss) (sym one)
+    ∙ seen
+
+-- what stands at a place is put there again
+pub put_again : {X : Type 0} → (xs : List X) (i : ℕ) (d : X) → i < length xs → xs ≡ set xs i (get_or xs i d)
+put_again [] i d l = absurd (omega arith)
+put_again (x ∷ xs) zero d l = refl
+put_again (x ∷ xs) (suc i) d l = ap (λ ys. x ∷ ys) (put_again xs i d (omega arith))
+
+pub at_set : {X : Type 0} → (xs : List X) (i : ℕ) (x d : X) → i < length xs → get_or (set xs i x) i d ≡ x
+at_set [] i x d l = absurd (omega arith)
+at_set (y ∷ xs) zero x d l = refl
+at_set (y ∷ xs) (suc i) x d l = at_set xs i x d (omega arith)
+
+-- a cell that is put into lane 0 where lane 1 holds nothing
+pub first_given : (columns : List ColumnView) (hs ws : List Held) (fs ss gs : List BlockView) (i lane q : ℕ) (block d : BlockView) → columns_of hs fs ss ≡ columns → ws ≡ set hs i (record (get_or hs i nothing) { first = true; first_quality = q }) → gs ≡ set fs i block
+    → i < length hs → length fs ≡ length hs → length ss ≡ length hs → lane ≡ 0 → (get_or hs i nothing).second ≡ false
+    → columns_of ws gs ss ≡ set columns i (with_cell lane (Some (record { block = block; quality = q })) (get_or columns i empty_column))
+first_given columns hs ws fs ss gs i lane q block d seen w g l a b first empty =
+    let h : Held = get_or hs i nothing in
+    let there : get_or gs i d ≡ block = ap (λ (xs : List BlockView). get_or xs i d) g ∙ at_set fs i block d (omega (arith, l, a)) in
+    column_given columns hs ws fs ss gs ss i lane (Some (record { block = block; quality = q })) (record h { first = true; first_quality = q }) d seen w
+    (g ∙ ap (λ (x : BlockView). set fs i x) (sym there)) (put_again ss i d (omega (arith, l, b))) l a b
+    (ap (λ (x : BlockView). column_of (record h { first = true; first_quality = q }) x (get_or ss i d)) there ∙ alone_at h lane q block (get_or fs i d) (get_or ss i d) first empty)
+  where
+    alone_at : (h : Held) (lane q : ℕ) (x f s : BlockView) → lane ≡ 0 → h.second ≡ false → column_of (record h { first = true; first_quality = q }) x s ≡ with_cell lane (Some (record { block = x; quality = q })) (column_of h f s)
+    alone_at h lane q x f s e k = rw (e, k) refl

@@ -105,44 +105,9 @@ impl Held {
         None
     }
 
-    /// Puts a copy of the block, and the time quality byte of its frame, into the lane, 0 or else 1, of the column at this place. It is alone
-    /// where it is known that it goes into lane 0, and that lane 1 holds nothing.
+    /// Puts a copy of the block, and the time quality byte of its frame, into the lane, 0 or else 1, of the column at this place.
     #[inline(always)]
     pub(crate) fn put<B: Offered>(
-        &mut self,
-        first: &mut RowBlocks,
-        second: &mut RowBlocks,
-        place: usize,
-        lane: usize,
-        block: &B,
-        quality: u8,
-        is_alone: bool,
-    )
-        requires first { place < length first.old }
-        requires second { place < length second.old }
-        requires alone { is_alone ≡ true → (lane ≡ 0) × (self.old.second ≡ false) }
-        ensures column { (default : BlockView) → column_of self.new
-            (slice_index_or first.new place default) (slice_index_or second.new place default)
-            ≡ with_cell lane (Some (record { block = B.view block.now; quality = quality }))
-            (column_of self.old (slice_index_or first.old place default)
-            (slice_index_or second.old place default)) }
-        ensures first { (default : BlockView) →
-            first.new ≡ slice_set first.old place (slice_index_or first.new place default) }
-        ensures second { (default : BlockView) →
-            second.new ≡ slice_set second.old place (slice_index_or second.new place default) }
-    {
-        if is_alone {
-            self.first = true;
-            self.first_quality = quality;
-            first.put(place, block);
-        } else {
-            self.put_beside(first, second, place, lane, block, quality);
-        }
-    }
-
-    /// The same where the other lane may hold a cell.
-    #[inline(always)]
-    fn put_beside<B: Offered>(
         &mut self,
         first: &mut RowBlocks,
         second: &mut RowBlocks,

@@ -88,6 +88,29 @@ impl Columns {
         }
     }
 
+    /// Lays these columns out as others, where they are as many and hold nothing yet: so that the blocks which come have their places.
+    pub(crate) fn lay_out_as(&mut self, other: &Columns)
+        ensures { self.new ≡ self.old }
+    {
+        let Some(held) = self.held.one() else {
+            return;
+        };
+        if held.first || held.second || other.held.len() != self.held.len() {
+            return;
+        }
+        self.first.lay_out_as(&other.first);
+        self.second.lay_out_as(&other.second);
+    }
+
+    /// Whether no column ever held anything, or all were emptied at once.
+    #[inline(always)]
+    pub(crate) fn are_new(&self) -> bool {
+        match self.held.one() {
+            Some(held) => !held.first && !held.second,
+            None => false,
+        }
+    }
+
     /// Empties each column.
     #[inline]
     pub(crate) fn forget_all(&mut self)
@@ -148,17 +171,32 @@ impl Columns {
         ensures { self.new ≡ with_cells lane (cells_in B.view (cell.now ∷ []) quality) self.old }
     {
         let (column, block) = cell;
-        let mut held = self.held.at(*column);
+        if is_alone {
+            self.first.put(*column, block);
+            self.held.hold_first(*column, quality);
+        } else {
+            self.put_beside(lane, *column, block, quality);
+        }
+    }
+
+    /// The same where the other lane may hold a cell.
+    #[inline(always)]
+    fn put_beside<B: Offered>(&mut self, lane: usize, column: usize, block: &B, quality: u8)
+        requires { column < length self.old }
+        ensures { self.new ≡ slice_set self.old column (with_cell lane
+            (Some (record { block = B.view block.now; quality = quality }))
+            (slice_index_or self.old column empty_column)) }
+    {
+        let mut held = self.held.at(column);
         held.put(
             &mut self.first,
             &mut self.second,
-            *column,
+            column,
             lane,
             block,
             quality,
-            is_alone,
         );
-        self.held.set(*column, held);
+        self.held.set(column, held);
     }
 
     /// The same of any number of blocks: a call of its own, so that the way of one block keeps what it needs in registers.

@@ -1,6 +1,6 @@
 //! Which lanes of each column hold a cell, where often the same is so of all columns.
 ghost use Rattle.std.specs.Prelude.{◌≡◌, ◌<◌, ◌≤◌, IfSome, length, map, replicate, slice_index_or};
-ghost use Rattle.std.specs.Prelude.{slice_set};
+ghost use Rattle.std.specs.Prelude.{slice_set, true};
 ghost use Rattle.pdc_open_row.specs.OpenRowParts.{nothing, without_lane};
 
 use crate::column::{Held, NOTHING, forget_lane};
@@ -40,7 +40,7 @@ impl Lanes {
         let mut each = ArrayVec::from_array_in((), [NOTHING; MAX_COLUMNS]);
         each.truncate(count);
         Lanes {
-            is_one: false,
+            is_one: true,
             one: NOTHING,
             each,
         }
@@ -90,6 +90,27 @@ impl Lanes {
         }
     }
 
+    /// Notes that lane 0 of the column at this place holds a cell, of a frame with this time quality byte.
+    #[inline(always)]
+    pub(crate) fn hold_first(&mut self, place: usize, quality: u8)
+        requires { place < length self.old }
+        ensures { self.new ≡ slice_set self.old place (record (slice_index_or self.old place
+            nothing) {
+              first = true;
+              first_quality = quality;
+            }) }
+    {
+        if self.is_one {
+            let mut held = self.one;
+            held.first = true;
+            held.first_quality = quality;
+            write_apart(self.each.as_mut_slice(), self.one, place, held);
+            self.is_one = false;
+        } else {
+            hold_at(self.each.as_mut_slice(), place, quality);
+        }
+    }
+
     /// Makes this what is held of each column.
     #[inline(always)]
     pub(crate) fn fill(&mut self, held: Held)
@@ -119,6 +140,20 @@ fn write_apart(each: &mut [Held], all: Held, place: usize, held: Held)
 {
     each.fill(all);
     each[place] = held;
+}
+
+/// Notes the same in a list of what is held of each column.
+#[inline(always)]
+fn hold_at(each: &mut [Held], place: usize, quality: u8)
+    requires { place < length each.old }
+    ensures { each.new ≡ slice_set each.old place (record (slice_index_or each.old place nothing) {
+      first = true;
+      first_quality = quality;
+    }) }
+{
+    let held = &mut each[place];
+    held.first = true;
+    held.first_quality = quality;
 }
 
 impl CopyFrom for Lanes {

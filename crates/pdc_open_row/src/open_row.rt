@@ -82,6 +82,20 @@ impl OpenRow {
         self.columns.forget_all();
     }
 
+    /// Lays this row out as another one, if it is new: so that the blocks which come have their places. It shows nothing of it.
+    #[inline(never)]
+    pub fn lay_out_as(&mut self, other: &OpenRow)
+        ensures { self.new ≡ self.old }
+    {
+        self.columns.lay_out_as(&other.columns);
+    }
+
+    /// Whether it may be worth it to lay this row out as another: nothing was taken yet.
+    #[inline(always)]
+    pub fn is_new(&self) -> bool {
+        self.columns.are_new()
+    }
+
     /// Makes this a row of no instant.
     pub fn leave(&mut self)
         ensures { self.new ≡ without_instant self.old }

@@ -231,6 +231,17 @@ impl RowBlocks {
         self.put(place, &absent(shape));
     }
 
+    /// Gives these blocks the shapes of others, of which there may be another number. What words they have is left open: they are to be
+    /// written over.
+    pub fn lay_out_as(&mut self, other: &RowBlocks)
+        ensures { shapes_of self.new ≡ shapes_of other.now }
+    {
+        self.count = other.count;
+        self.shapes = other.shapes;
+        self.starts = other.starts;
+        self.len = other.len;
+    }
+
     /// Writes these bytes, which are as many, over those of the blocks, of which each keeps its shape.
     #[inline(always)]
     pub fn write_over(&mut self, bytes: &[u8])

@@ -212,6 +212,30 @@ fn copy_open(open: &mut Held<u64>, others: &[u64])
     }
 }
 
+/// Lays a row in which nothing was taken yet out as the one before it, so that the blocks which come have their places.
+#[inline(always)]
+fn lay_out_new(places: &mut Held<OpenRow>, place: usize)
+    requires { place < length places.old.items }
+    ensures items { places.new.items ≡ places.old.items }
+    ensures capacity { places.new.capacity ≡ places.old.capacity }
+{
+    if places.item(place).is_new() {
+        lay_out_at(places.as_mut_slice(), place);
+    }
+}
+
+/// The same in a list of rows. A call of its own, since it is seldom.
+#[inline(never)]
+fn lay_out_at(rows: &mut [OpenRow], place: usize)
+    requires { place < length rows.old }
+    ensures { rows.new ≡ rows.old }
+{
+    let (front, back) = rows.split_at_mut(place);
+    if let Some(before) = front.last() {
+        back[0].lay_out_as(before);
+    }
+}
+
 impl Rows {
     /// So many places, of which none is open.
     pub fn new(alloc: Global, count: usize, sizes: Places) -> Result<Rows, AllocError>
@@ -302,6 +326,7 @@ impl Rows {
         ensures capacity { self.new.places.capacity ≡ self.old.places.capacity }
         ensures open_capacity { self.new.open.capacity ≡ self.old.open.capacity }
     {
+        lay_out_new(&mut self.places, here.place);
         let row = self.places.item_mut(here.place);
         if row.instant() != here.instant {
             row.begin(here.instant);

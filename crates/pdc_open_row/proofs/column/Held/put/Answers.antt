@@ -1,7 +1,7 @@
 use Rattle.std.proofs.Common.{◌≡◌, ◌∙◌, get_or, refl, sym}
 use Rattle.std.proofs.lemmas.Bool.{ne_eqb}
 use Rattle.pdc_row.proofs.SameBlocks.{block_is}
-use Rattle.pdc_open_row.proofs.column.Held.put_beside.Goals as goal
+use Rattle.pdc_open_row.proofs.column.Held.put.Goals as goal
 
 -- what is the same in lane 0 stands there
 pub returns-then-holds-clause-column : goal.returns-then-holds-clause-column
