@@ -244,6 +244,13 @@ nothing_shown (suc n) h (f ∷ fs) (s ∷ ss) e k a b =
     ap (λ column. column ∷ columns_of (replicate n h) fs ss) (empty_shown h f s e k)
     ∙ ap (λ columns. empty_column ∷ columns) (nothing_shown n h fs ss e k (omega (arith, a)) (omega (arith, b)))
 
+pub all_new : (columns : List ColumnView) (hs : List Held) (h : Held) (fs ss : List BlockView) → columns_of hs fs ss ≡ columns → hs ≡ replicate (length hs) h → length fs ≡ length hs → length ss ≡ length hs → h.first ≡ false → h.second ≡ false → columns ≡ replicate (length columns) empty_column
+all_new columns hs h fs ss seen one a b e k =
+    sym seen
+    ∙ ap (λ (xs : List Held). columns_of xs fs ss) one
+    ∙ nothing_shown (length hs) h fs ss e k a b
+    ∙ ap (λ n. replicate n empty_column) (sym (columns_seen columns hs fs ss seen (omega (arith, a)) (omega (arith, b))))
+
 pub laid_out_again : (columns : List ColumnView) (hs : List Held) (h : Held) (fs ss gs ts : List BlockView) → columns_of hs fs ss ≡ columns → hs ≡ replicate (length hs) h → h.first ≡ false → h.second ≡ false
     → length fs ≡ length hs → length ss ≡ length hs → length gs ≡ length hs → length ts ≡ length hs → columns_of hs gs ts ≡ columns
 laid_out_again columns hs h fs ss gs ts seen one e k a b c d =

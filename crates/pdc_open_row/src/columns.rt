@@ -102,9 +102,11 @@ impl Columns {
         self.second.lay_out_as(&other.second);
     }
 
-    /// Whether no column ever held anything, or all were emptied at once.
+    /// Whether it is known of all columns at once that they hold nothing.
     #[inline(always)]
-    pub(crate) fn are_new(&self) -> bool {
+    pub(crate) fn are_new(&self) -> bool
+        ensures { result ≡ true → self.now ≡ replicate (length self.now) empty_column }
+    {
         match self.held.one() {
             Some(held) => !held.first && !held.second,
             None => false,

@@ -1,9 +1,9 @@
 //! The row of an instant that is open.
 ghost use Rattle.std.specs.Prelude.{◌≡◌, ◌+◌, ◌<◌, ◌≤◌, ◌++◌, drop, length, Some};
-ghost use Rattle.std.specs.Prelude.{if◌then◌else◌};
+ghost use Rattle.std.specs.Prelude.{if◌then◌else◌, replicate, true};
 ghost use Rattle.pdc_row.specs.Quality.{quality_of, worst_of};
 ghost use Rattle.pdc_row.specs.RowView.{row_view};
-ghost use Rattle.pdc_open_row.specs.Views.{at_age, blank_row, without_instant};
+ghost use Rattle.pdc_open_row.specs.Views.{at_age, blank_row, empty_column, without_instant};
 ghost use Rattle.pdc_open_row.specs.Row.{blocks_of, qualities_of, row_of};
 ghost use Rattle.pdc_open_row.specs.Due.{all_taken, is_due};
 ghost use Rattle.pdc_open_row.specs.Taking.{HaveColumns, answer_at, conflicts, is_taken};
@@ -90,9 +90,12 @@ impl OpenRow {
         self.columns.lay_out_as(&other.columns);
     }
 
-    /// Whether it may be worth it to lay this row out as another: nothing was taken yet.
+    /// Whether it is known of all columns at once that they hold nothing: only then is the row laid out as another.
     #[inline(always)]
-    pub fn is_new(&self) -> bool {
+    pub fn is_new(&self) -> bool
+        ensures { result ≡ true → self.now.columns ≡
+            replicate (length self.now.columns) empty_column }
+    {
         self.columns.are_new()
     }
 
