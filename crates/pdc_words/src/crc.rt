@@ -37,7 +37,7 @@ pub(crate) const WIDE_STEP: usize = 16;
 pub(crate) const STEP: usize = 8;
 
 /// From so many bytes on, lanes are faster.
-const BLOCKS_FROM: usize = 640;
+pub(crate) const BLOCKS_FROM: usize = 640;
 
 /// The number of bits of a state.
 pub(crate) const STATE_BITS: usize = 8 * STEP;
@@ -230,6 +230,24 @@ pub(crate) fn after_rest(state: u64, bytes: &[u8], place: usize) -> u64
     )
 }
 
+/// The state after the bytes from `place` on, sixteen a step, of which those in front have this state.
+#[inline(always)]
+pub(crate) fn after_wide_steps(state: u128, bytes: &[u8], place: usize) -> u64
+    requires long { STEP ≤ length bytes.now }
+    requires place { place ≤ length bytes.now }
+    ensures step { (check : ℕ) → IsRemainder (state * 2 ^ DEGREE)
+        (fold check_after check (take place bytes.now))
+        → IsRemainder (result * 2 ^ DEGREE) (fold check_after check bytes.now) }
+{
+    let mut after = state;
+    let mut at = place;
+    while bytes.len() - at >= WIDE_STEP {
+        after = wide_moved_up(after) ^ read_wide_step(bytes, at);
+        at += WIDE_STEP;
+    }
+    after_rest(narrowed(after), bytes, at)
+}
+
 /// The check word of fewer than eight bytes: no frame has so few, and so it is a call of its own.
 #[inline(never)]
 fn check_of_few(bytes: &[u8]) -> u16
@@ -261,12 +279,8 @@ fn check_of_many(bytes: &[u8]) -> u16
     ensures remainder { IsCheckWord bytes.now result }
     ensures value { result ≡ check_word_of bytes.now }
 {
-    let (mut state, mut at) = after_long_steps(START, bytes);
-    while bytes.len() - at >= WIDE_STEP {
-        state = wide_moved_up(state) ^ read_wide_step(bytes, at);
-        at += WIDE_STEP;
-    }
-    check_of_state(after_rest(narrowed(state), bytes, at))
+    let (state, at) = after_long_steps(START, bytes);
+    check_of_state(after_wide_steps(state, bytes, at))
 }
 
 /// The check word of many bytes, by lanes. A call of its own, so that fewer keep what they need in few registers.
@@ -276,12 +290,8 @@ fn check_of_blocks(bytes: &[u8]) -> u16
     ensures remainder { IsCheckWord bytes.now result }
     ensures value { result ≡ check_word_of bytes.now }
 {
-    let (mut state, mut at) = after_blocks(START, bytes);
-    while bytes.len() - at >= WIDE_STEP {
-        state = wide_moved_up(state) ^ read_wide_step(bytes, at);
-        at += WIDE_STEP;
-    }
-    check_of_state(after_rest(narrowed(state), bytes, at))
+    let (state, at) = after_blocks(START, bytes);
+    check_of_state(after_wide_steps(state, bytes, at))
 }
 
 /// The check word of the bytes: CRC-CCITT with generator x^16 + x^12 + x^5 + 1, start value FFFF and no final mask

@@ -6,9 +6,10 @@ ghost use Rattle.pdc_words.specs.CheckWord.{IsRemainder, check_after, check_word
 ghost use Rattle.pdc_words.specs.declared.crc.TheConstants.{DEGREE, STEP, WIDE_STEP};
 
 use crate::crc::{
-    LONG_STEP, START, STATE_BITS, STEP, WIDE_STEP, after_long_steps, after_rest, check_of_state,
-    moved_up, narrowed, read_few, read_step, read_wide_step, wide_moved_up,
+    BLOCKS_FROM, LONG_STEP, START, STATE_BITS, STEP, WIDE_STEP, after_long_steps, after_wide_steps,
+    check_of_state, moved_up, narrowed, read_few, read_step,
 };
+use crate::lanes::after_blocks;
 
 /// The number of bytes of a frame before its payload: SYNC, FRAMESIZE, IDCODE, SOC and FRACSEC (6.2, table 2).
 pub const BYTES_BEFORE_PAYLOAD: usize = 14;
@@ -86,12 +87,20 @@ fn after_payload(header: u128, payload: &[u8]) -> u64
     ensures step { (check : ℕ) → IsRemainder (header * 2 ^ DEGREE) check
         → IsRemainder (result * 2 ^ DEGREE) (fold check_after check payload.now) }
 {
-    let (mut state, mut at) = after_front(header, payload);
-    while payload.len() - at >= WIDE_STEP {
-        state = wide_moved_up(state) ^ read_wide_step(payload, at);
-        at += WIDE_STEP;
-    }
-    after_rest(narrowed(state), payload, at)
+    let (state, at) = after_front(header, payload);
+    after_wide_steps(state, payload, at)
+}
+
+/// The state after many bytes behind a header, of which this is the state, by lanes. A call of its own, so that fewer keep what they need
+/// in few registers.
+#[inline(never)]
+fn after_many(header: u128, payload: &[u8]) -> u64
+    requires { STEP ≤ length payload.now }
+    ensures step { (check : ℕ) → IsRemainder (header * 2 ^ DEGREE) check
+        → IsRemainder (result * 2 ^ DEGREE) (fold check_after check payload.now) }
+{
+    let (state, at) = after_blocks(header, payload);
+    after_wide_steps(state, payload, at)
 }
 
 /// The state after fewer than eight bytes behind a header: no data has so few, and so it is a call of its own.
@@ -127,6 +136,9 @@ fn after_any(header: u128, payload: &[u8]) -> u64
     ensures step { (check : ℕ) → IsRemainder (header * 2 ^ DEGREE) check
         → IsRemainder (result * 2 ^ DEGREE) (fold check_after check payload.now) }
 {
+    if payload.len() >= BLOCKS_FROM {
+        return after_many(header, payload);
+    }
     if payload.len() >= WIDE_STEP {
         return after_payload(header, payload);
     }

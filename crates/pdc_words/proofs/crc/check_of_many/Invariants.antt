@@ -1,9 +1,0 @@
-use Rattle.std.proofs.Common.{◌-◌, ◌*◌, ◌^◌, ◌≤◌, length, take, fold}
-use Rattle.pdc_words.specs.CheckWord.{IsRemainder, check_after}
-use Rattle.pdc_words.proofs.crc.check_of_many.Given as goal
-
-abbrev pub invariant-loop-at : goal.invariant-loop-at
-invariant-loop-at l = (l.at ≤ length l.bytes) × IsRemainder (l.state * 2 ^ 16) (fold check_after 65535 (take l.at l.bytes))
-
-abbrev pub decreases-loop-at : goal.decreases-loop-at
-decreases-loop-at l = length l.bytes - l.at
