@@ -495,6 +495,55 @@ pub turned_state : (xs : List ℕ) → length xs ≡ 16 → number_of_lanes (map
 turned_state xs len =
     ap number_of_lanes (same_lane refl (same_lane refl (same_lane refl (same_lane refl (same_lane ((turned_sum (get_or xs 4 0) (get_or xs 0 0) (turned (get_or xs 4 0)) (turned (get_or xs 0 0)) refl refl)) (same_lane ((turned_sum (get_or xs 5 0) (get_or xs 1 0) (turned (get_or xs 5 0)) (turned (get_or xs 1 0)) refl refl)) (same_lane ((turned_sum (get_or xs 6 0) (get_or xs 2 0) (turned (get_or xs 6 0)) (turned (get_or xs 2 0)) refl refl)) (same_lane ((turned_sum (get_or xs 7 0) (get_or xs 3 0) (turned (get_or xs 7 0)) (turned (get_or xs 3 0)) refl refl)) (same_lane ((turned_sum (get_or xs 8 0) (get_or xs 4 0) (turned (get_or xs 8 0)) (turned (get_or xs 4 0)) refl refl)) (same_lane ((turned_sum (get_or xs 9 0) (get_or xs 5 0) (turned (get_or xs 9 0)) (turned (get_or xs 5 0)) refl refl)) (same_lane ((turned_sum (get_or xs 10 0) (get_or xs 6 0) (turned (get_or xs 10 0)) (turned (get_or xs 6 0)) refl refl)) (same_lane ((turned_sum (bit_xor (get_or xs 11 0) (get_or xs 7 0)) (get_or xs 0 0) (bit_xor (turned (get_or xs 11 0)) (turned (get_or xs 7 0))) (turned (get_or xs 0 0)) ((turned_sum (get_or xs 11 0) (get_or xs 7 0) (turned (get_or xs 11 0)) (turned (get_or xs 7 0)) refl refl)) refl)) (same_lane ((turned_sum (bit_xor (get_or xs 12 0) (get_or xs 8 0)) (get_or xs 1 0) (bit_xor (turned (get_or xs 12 0)) (turned (get_or xs 8 0))) (turned (get_or xs 1 0)) ((turned_sum (get_or xs 12 0) (get_or xs 8 0) (turned (get_or xs 12 0)) (turned (get_or xs 8 0)) refl refl)) refl)) (same_lane ((turned_sum (bit_xor (get_or xs 13 0) (get_or xs 9 0)) (get_or xs 2 0) (bit_xor (turned (get_or xs 13 0)) (turned (get_or xs 9 0))) (turned (get_or xs 2 0)) ((turned_sum (get_or xs 13 0) (get_or xs 9 0) (turned (get_or xs 13 0)) (turned (get_or xs 9 0)) refl refl)) refl)) (same_lane ((turned_sum (bit_xor (get_or xs 14 0) (get_or xs 10 0)) (get_or xs 3 0) (bit_xor (turned (get_or xs 14 0)) (turned (get_or xs 10 0))) (turned (get_or xs 3 0)) ((turned_sum (get_or xs 14 0) (get_or xs 10 0) (turned (get_or xs 14 0)) (turned (get_or xs 10 0)) refl refl)) refl)) (same_lane ((turned_sum (bit_xor (get_or xs 15 0) (get_or xs 11 0)) (get_or xs 4 0) (bit_xor (turned (get_or xs 15 0)) (turned (get_or xs 11 0))) (turned (get_or xs 4 0)) ((turned_sum (get_or xs 15 0) (get_or xs 11 0) (turned (get_or xs 15 0)) (turned (get_or xs 11 0)) refl refl)) refl)) refl)))))))))))))))) ∙ state_lanes (turned (get_or xs 0 0) ∷ turned (get_or xs 1 0) ∷ turned (get_or xs 2 0) ∷ turned (get_or xs 3 0) ∷ turned (get_or xs 4 0) ∷ turned (get_or xs 5 0) ∷ turned (get_or xs 6 0) ∷ turned (get_or xs 7 0) ∷ turned (get_or xs 8 0) ∷ turned (get_or xs 9 0) ∷ turned (get_or xs 10 0) ∷ turned (get_or xs 11 0) ∷ turned (get_or xs 12 0) ∷ turned (get_or xs 13 0) ∷ turned (get_or xs 14 0) ∷ turned (get_or xs 15 0) ∷ []) refl (lanes_at (turned (get_or xs 0 0) ∷ turned (get_or xs 1 0) ∷ turned (get_or xs 2 0) ∷ turned (get_or xs 3 0) ∷ turned (get_or xs 4 0) ∷ turned (get_or xs 5 0) ∷ turned (get_or xs 6 0) ∷ turned (get_or xs 7 0) ∷ turned (get_or xs 8 0) ∷ turned (get_or xs 9 0) ∷ turned (get_or xs 10 0) ∷ turned (get_or xs 11 0) ∷ turned (get_or xs 12 0) ∷ turned (get_or xs 13 0) ∷ turned (get_or xs 14 0) ∷ turned (get_or xs 15 0) ∷ []) (turned_fit xs)) ∙ ap state_of_lanes (sym (turned_literal xs len))
 
+-- the last block: its state is not made a quotient
+pub turned_left : (xs : List ℕ) (at : ℕ) (bytes : List ℕ) (r0 r1 r2 r3 r4 r5 r6 r7 r8 r9 r10 r11 r12 r13 r14 r15 check : ℕ) → length xs ≡ 16 → AreBytes bytes → at + 128 ≤ length bytes
+    → turned r0 ≡ polynomial_of (take 8 (drop at bytes)) → turned r1 ≡ polynomial_of (take 8 (drop (at + 8) bytes)) → turned r2 ≡ polynomial_of (take 8 (drop (at + 16) bytes)) → turned r3 ≡ polynomial_of (take 8 (drop (at + 24) bytes)) → turned r4 ≡ polynomial_of (take 8 (drop (at + 32) bytes)) → turned r5 ≡ polynomial_of (take 8 (drop (at + 40) bytes)) → turned r6 ≡ polynomial_of (take 8 (drop (at + 48) bytes)) → turned r7 ≡ polynomial_of (take 8 (drop (at + 56) bytes)) → turned r8 ≡ polynomial_of (take 8 (drop (at + 64) bytes)) → turned r9 ≡ polynomial_of (take 8 (drop (at + 72) bytes)) → turned r10 ≡ polynomial_of (take 8 (drop (at + 80) bytes)) → turned r11 ≡ polynomial_of (take 8 (drop (at + 88) bytes)) → turned r12 ≡ polynomial_of (take 8 (drop (at + 96) bytes)) → turned r13 ≡ polynomial_of (take 8 (drop (at + 104) bytes)) → turned r14 ≡ polynomial_of (take 8 (drop (at + 112) bytes)) → turned r15 ≡ polynomial_of (take 8 (drop (at + 120) bytes))
+    → IsRemainder (state_of_lanes (map turned xs) * 2 ^ 16) (fold check_after check (take at bytes))
+    → IsRemainder (number_of_lanes (map turned (bit_xor (bit_xor (get_or xs 12 0) (bit_xor (get_or xs 5 0) (get_or xs 0 0))) r0 ∷ bit_xor (bit_xor (get_or xs 13 0) (bit_xor (get_or xs 6 0) (get_or xs 1 0))) r1 ∷ bit_xor (bit_xor (get_or xs 14 0) (bit_xor (get_or xs 7 0) (get_or xs 2 0))) r2 ∷ bit_xor (bit_xor (get_or xs 15 0) (bit_xor (get_or xs 8 0) (get_or xs 3 0))) r3 ∷ bit_xor (bit_xor (get_or xs 9 0) (get_or xs 4 0)) r4 ∷ bit_xor (bit_xor (get_or xs 10 0) (get_or xs 5 0)) r5 ∷ bit_xor (bit_xor (get_or xs 11 0) (get_or xs 6 0)) r6 ∷ bit_xor (bit_xor (get_or xs 12 0) (get_or xs 7 0)) r7 ∷ bit_xor (bit_xor (get_or xs 13 0) (get_or xs 8 0)) r8 ∷ bit_xor (bit_xor (get_or xs 14 0) (get_or xs 9 0)) r9 ∷ bit_xor (bit_xor (get_or xs 15 0) (get_or xs 10 0)) r10 ∷ bit_xor (get_or xs 11 0) r11 ∷ bit_xor (get_or xs 12 0) r12 ∷ bit_xor (get_or xs 13 0) r13 ∷ bit_xor (get_or xs 14 0) r14 ∷ bit_xor (get_or xs 15 0) r15 ∷ [])) * 2 ^ 16) (fold check_after check (take (at + 128) bytes))
+turned_left xs at bytes r0 r1 r2 r3 r4 r5 r6 r7 r8 r9 r10 r11 r12 r13 r14 r15 check len bytes_fit le e0 e1 e2 e3 e4 e5 e6 e7 e8 e9 e10 e11 e12 e13 e14 e15 now =
+    let j0 : ℕ = bit_xor (bit_xor (get_or xs 12 0) (bit_xor (get_or xs 5 0) (get_or xs 0 0))) r0 in
+    let j1 : ℕ = bit_xor (bit_xor (get_or xs 13 0) (bit_xor (get_or xs 6 0) (get_or xs 1 0))) r1 in
+    let j2 : ℕ = bit_xor (bit_xor (get_or xs 14 0) (bit_xor (get_or xs 7 0) (get_or xs 2 0))) r2 in
+    let j3 : ℕ = bit_xor (bit_xor (get_or xs 15 0) (bit_xor (get_or xs 8 0) (get_or xs 3 0))) r3 in
+    let j4 : ℕ = bit_xor (bit_xor (get_or xs 9 0) (get_or xs 4 0)) r4 in
+    let j5 : ℕ = bit_xor (bit_xor (get_or xs 10 0) (get_or xs 5 0)) r5 in
+    let j6 : ℕ = bit_xor (bit_xor (get_or xs 11 0) (get_or xs 6 0)) r6 in
+    let j7 : ℕ = bit_xor (bit_xor (get_or xs 12 0) (get_or xs 7 0)) r7 in
+    let j8 : ℕ = bit_xor (bit_xor (get_or xs 13 0) (get_or xs 8 0)) r8 in
+    let j9 : ℕ = bit_xor (bit_xor (get_or xs 14 0) (get_or xs 9 0)) r9 in
+    let j10 : ℕ = bit_xor (bit_xor (get_or xs 15 0) (get_or xs 10 0)) r10 in
+    let j11 : ℕ = bit_xor (get_or xs 11 0) r11 in
+    let j12 : ℕ = bit_xor (get_or xs 12 0) r12 in
+    let j13 : ℕ = bit_xor (get_or xs 13 0) r13 in
+    let j14 : ℕ = bit_xor (get_or xs 14 0) r14 in
+    let j15 : ℕ = bit_xor (get_or xs 15 0) r15 in
+    let a0 : ℕ = j0 in
+    let a1 : ℕ = j1 in
+    let a2 : ℕ = j2 in
+    let a3 : ℕ = j3 in
+    let a4 : ℕ = bit_xor j4 a0 in
+    let a5 : ℕ = bit_xor j5 a1 in
+    let a6 : ℕ = bit_xor j6 a2 in
+    let a7 : ℕ = bit_xor j7 a3 in
+    let a8 : ℕ = bit_xor j8 a4 in
+    let a9 : ℕ = bit_xor j9 a5 in
+    let a10 : ℕ = bit_xor j10 a6 in
+    let a11 : ℕ = bit_xor (bit_xor j11 a0) a7 in
+    let a12 : ℕ = bit_xor (bit_xor j12 a1) a8 in
+    let a13 : ℕ = bit_xor (bit_xor j13 a2) a9 in
+    let a14 : ℕ = bit_xor (bit_xor j14 a3) a10 in
+    let a15 : ℕ = bit_xor (bit_xor j15 a4) a11 in
+    let quotients : List ℕ = a0 ∷ a1 ∷ a2 ∷ a3 ∷ a4 ∷ a5 ∷ a6 ∷ a7 ∷ a8 ∷ a9 ∷ a10 ∷ a11 ∷ a12 ∷ a13 ∷ a14 ∷ a15 ∷ [] in
+    let states : List ℕ = a0 ∷ a1 ∷ a2 ∷ a3 ∷ bit_xor a4 a0 ∷ bit_xor a5 a1 ∷ bit_xor a6 a2 ∷ bit_xor a7 a3 ∷ bit_xor a8 a4 ∷ bit_xor a9 a5 ∷ bit_xor a10 a6 ∷ bit_xor (bit_xor a11 a7) a0 ∷ bit_xor (bit_xor a12 a8) a1 ∷ bit_xor (bit_xor a13 a9) a2 ∷ bit_xor (bit_xor a14 a10) a3 ∷ bit_xor (bit_xor a15 a11) a4 ∷ [] in
+    let joined : List ℕ = j0 ∷ j1 ∷ j2 ∷ j3 ∷ j4 ∷ j5 ∷ j6 ∷ j7 ∷ j8 ∷ j9 ∷ j10 ∷ j11 ∷ j12 ∷ j13 ∷ j14 ∷ j15 ∷ [] in
+    let back : states ≡ joined = (same_lane refl (same_lane refl (same_lane refl (same_lane refl (same_lane (cancel j4 a0) (same_lane (cancel j5 a1) (same_lane (cancel j6 a2) (same_lane (cancel j7 a3) (same_lane (cancel j8 a4) (same_lane (cancel j9 a5) (same_lane (cancel j10 a6) (same_lane (ap (λ (x : ℕ). bit_xor x a0) (cancel (bit_xor j11 a0) a7) ∙ cancel j11 a0) (same_lane (ap (λ (x : ℕ). bit_xor x a1) (cancel (bit_xor j12 a1) a8) ∙ cancel j12 a1) (same_lane (ap (λ (x : ℕ). bit_xor x a2) (cancel (bit_xor j13 a2) a9) ∙ cancel j13 a2) (same_lane (ap (λ (x : ℕ). bit_xor x a3) (cancel (bit_xor j14 a3) a10) ∙ cancel j14 a3) (same_lane (ap (λ (x : ℕ). bit_xor x a4) (cancel (bit_xor j15 a4) a11) ∙ cancel j15 a4) refl)))))))))))))))) in
+    let made : number_of_lanes (map turned states) ≡ state_of_lanes (map turned quotients) = turned_state quotients refl in
+    let same : state_of_lanes (map turned quotients) ≡ number_of_lanes (map turned joined) =
+    sym made ∙ ap (λ (l : List ℕ). number_of_lanes (map turned l)) back in
+    let whole : IsRemainder (state_of_lanes (map turned quotients) * 2 ^ 16) (fold check_after check (take (at + 128) bytes)) =
+    turned_block xs at bytes r0 r1 r2 r3 r4 r5 r6 r7 r8 r9 r10 r11 r12 r13 r14 r15 check len bytes_fit le e0 e1 e2 e3 e4 e5 e6 e7 e8 e9 e10 e11 e12 e13 e14 e15 now in
+    subst (λ (s : ℕ). IsRemainder (s * 2 ^ 16) (fold check_after check (take (at + 128) bytes))) same whole
+
 pub turned_narrow : (xs : List ℕ) (p0 p1 p2 p3 p4 p5 p6 p7 n1 n2 n3 n4 n5 n6 n7 : ℕ) → length xs ≡ 16 → p0 ≡ turned (get_or xs 0 0) * 2 ^ 64 + turned (get_or xs 1 0) → IsCongruent (p0 * 2 ^ 128) n1
     → p1 ≡ turned (get_or xs 2 0) * 2 ^ 64 + turned (get_or xs 3 0) → IsCongruent (bit_xor n1 p1 * 2 ^ 128) n2
     → p2 ≡ turned (get_or xs 4 0) * 2 ^ 64 + turned (get_or xs 5 0) → IsCongruent (bit_xor n2 p2 * 2 ^ 128) n3
@@ -530,21 +579,13 @@ turned_first state high low h l state-is high_fits low_fits h-is l-is =
     ∙ lanes_of_state state high low state-is
 
 -- a lane that was read
-pub turned_read : (lane place : ℕ) (bytes : List ℕ) → AreBytes bytes → place + 8 ≤ length bytes → lane ≡ from_le_bytes w64 (get_or bytes place 0 ∷ get_or bytes (place + 1) 0 ∷ get_or bytes (place + 2) 0 ∷ get_or bytes (place + 3) 0 ∷ get_or bytes (place + 4) 0 ∷ get_or bytes (place + 5) 0 ∷ get_or bytes (place + 6) 0 ∷ get_or bytes (place + 7) 0 ∷ []) → turned lane ≡ polynomial_of (take 8 (drop place bytes))
+pub turned_read : (lane place : ℕ) (part bytes : List ℕ) → AreBytes bytes → place + 8 ≤ length bytes → part ≡ take 8 (drop place bytes) → lane ≡ from_le_bytes w64 part → turned lane ≡ polynomial_of (take 8 (drop place bytes))
 unfolding turned
-turned_read lane place bytes fits le e =
+turned_read lane place part bytes fits le same e =
     let cells : List ℕ = cells_from bytes place 8 in
-    let n1 : place + 1 ≡ suc place = omega arith in
-    let n2 : place + 2 ≡ suc (suc place) = omega arith in
-    let n3 : place + 3 ≡ suc (suc (suc place)) = omega arith in
-    let n4 : place + 4 ≡ suc (suc (suc (suc place))) = omega arith in
-    let n5 : place + 5 ≡ suc (suc (suc (suc (suc place)))) = omega arith in
-    let n6 : place + 6 ≡ suc (suc (suc (suc (suc (suc place))))) = omega arith in
-    let n7 : place + 7 ≡ suc (suc (suc (suc (suc (suc (suc place)))))) = omega arith in
-    let same : get_or bytes place 0 ∷ get_or bytes (place + 1) 0 ∷ get_or bytes (place + 2) 0 ∷ get_or bytes (place + 3) 0 ∷ get_or bytes (place + 4) 0 ∷ get_or bytes (place + 5) 0 ∷ get_or bytes (place + 6) 0 ∷ get_or bytes (place + 7) 0 ∷ [] ≡ cells = same_lane refl (same_lane (ap (λ (m : ℕ). get_or bytes m 0) n1) (same_lane (ap (λ (m : ℕ). get_or bytes m 0) n2) (same_lane (ap (λ (m : ℕ). get_or bytes m 0) n3) (same_lane (ap (λ (m : ℕ). get_or bytes m 0) n4) (same_lane (ap (λ (m : ℕ). get_or bytes m 0) n5) (same_lane (ap (λ (m : ℕ). get_or bytes m 0) n6) (same_lane (ap (λ (m : ℕ). get_or bytes m 0) n7) (refl)))))))) in
     let fit : AreOctets cells = (fits place, (fits (suc place), (fits (suc (suc place)), (fits (suc (suc (suc place))), (fits (suc (suc (suc (suc place)))), (fits (suc (suc (suc (suc (suc place))))), (fits (suc (suc (suc (suc (suc (suc place)))))), (fits (suc (suc (suc (suc (suc (suc (suc place))))))), refl)))))))) in
-    let part : take 8 (drop place bytes) ≡ cells = ap (take 8) (drop-cells_from bytes place 8 le) in
-    ap polynomial_of (le_bytes_8 cells lane refl (octets_at cells fit) (e ∙ ap (from_le_bytes w64) same) ∙ sym part)
+    let read : take 8 (drop place bytes) ≡ cells = ap (take 8) (drop-cells_from bytes place 8 le) in
+    ap polynomial_of (le_bytes_8 cells lane refl (octets_at cells fit) (e ∙ ap (from_le_bytes w64) (same ∙ read)) ∙ sym read)
 
 pub number_turned : (lane : ℕ) → from_be_bytes w64 (to_le_bytes w64 lane) ≡ turned lane
 unfolding turned

@@ -7,7 +7,7 @@ ghost use Rattle.std.specs.Prelude.{◌≡◌, ◌+◌, ◌*◌, ◌^◌, ◌≤
 ghost use Rattle.pdc_words.specs.CheckWord.{IsCheckWord, IsCongruent, IsRemainder, check_after};
 ghost use Rattle.pdc_words.specs.CheckWord.{check_word_of, high_of_product, polynomial_of};
 
-use crate::lanes::after_blocks;
+use crate::lanes::{BLOCK, after_blocks};
 
 /// The highest exponent of the generator, x^16 + x^12 + x^5 + 1.
 pub(crate) const DEGREE: u32 = 16;
@@ -37,7 +37,7 @@ pub(crate) const WIDE_STEP: usize = 16;
 pub(crate) const STEP: usize = 8;
 
 /// From so many bytes on, lanes are faster.
-pub(crate) const BLOCKS_FROM: usize = 640;
+pub(crate) const BLOCKS_FROM: usize = 512;
 
 /// The number of bits of a state.
 pub(crate) const STATE_BITS: usize = 8 * STEP;
@@ -286,7 +286,7 @@ fn check_of_many(bytes: &[u8]) -> u16
 /// The check word of many bytes, by lanes. A call of its own, so that fewer keep what they need in few registers.
 #[inline(never)]
 fn check_of_blocks(bytes: &[u8]) -> u16
-    requires { LONG_STEP ≤ length bytes.now }
+    requires { BLOCK ≤ length bytes.now }
     ensures remainder { IsCheckWord bytes.now result }
     ensures value { result ≡ check_word_of bytes.now }
 {

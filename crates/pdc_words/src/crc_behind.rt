@@ -9,7 +9,7 @@ use crate::crc::{
     BLOCKS_FROM, LONG_STEP, START, STATE_BITS, STEP, WIDE_STEP, after_long_steps, after_wide_steps,
     check_of_state, moved_up, narrowed, read_few, read_step,
 };
-use crate::lanes::after_blocks;
+use crate::lanes::{BLOCK, after_blocks};
 
 /// The number of bytes of a frame before its payload: SYNC, FRAMESIZE, IDCODE, SOC and FRACSEC (6.2, table 2).
 pub const BYTES_BEFORE_PAYLOAD: usize = 14;
@@ -95,7 +95,7 @@ fn after_payload(header: u128, payload: &[u8]) -> u64
 /// in few registers.
 #[inline(never)]
 fn after_many(header: u128, payload: &[u8]) -> u64
-    requires { STEP ≤ length payload.now }
+    requires { BLOCK ≤ length payload.now }
     ensures step { (check : ℕ) → IsRemainder (header * 2 ^ DEGREE) check
         → IsRemainder (result * 2 ^ DEGREE) (fold check_after check payload.now) }
 {

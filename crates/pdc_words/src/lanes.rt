@@ -12,22 +12,16 @@ use crate::crc::wide_moved_up;
 /// The number of bytes of a block.
 pub(crate) const BLOCK: usize = 128;
 
-/// The eight bytes from `place` on as they stand, the lowest first.
+/// The eight bytes from `place` on as they stand, the lowest first: read at once, so that two lanes go into one register.
 #[inline(always)]
 fn read_lane(bytes: &[u8], place: usize) -> u64
     requires { place + 8 ≤ length bytes.now }
     ensures { turned result ≡ polynomial_of (take 8 (drop place bytes.now)) }
 {
-    u64::from_le_bytes([
-        bytes[place],
-        bytes[place + 1],
-        bytes[place + 2],
-        bytes[place + 3],
-        bytes[place + 4],
-        bytes[place + 5],
-        bytes[place + 6],
-        bytes[place + 7],
-    ])
+    match bytes[place..place + 8].split_first_chunk() {
+        Some((lane, _)) => u64::from_le_bytes(*lane),
+        None => 0,
+    }
 }
 
 /// The lane that stands for this number.
@@ -44,32 +38,6 @@ fn number_of(lane: u64) -> u64
     ensures { result ≡ turned lane }
 {
     u64::from_be_bytes(lane.to_le_bytes())
-}
-
-/// The state that has this quotient.
-#[inline(always)]
-fn lanes_state(q: &[u64]) -> [u64; 16]
-    requires { length q.now ≡ 16 }
-    ensures { number_of_lanes (map turned result) ≡ state_of_lanes (map turned q.now) }
-{
-    [
-        q[0],
-        q[1],
-        q[2],
-        q[3],
-        q[4] ^ q[0],
-        q[5] ^ q[1],
-        q[6] ^ q[2],
-        q[7] ^ q[3],
-        q[8] ^ q[4],
-        q[9] ^ q[5],
-        q[10] ^ q[6],
-        (q[11] ^ q[7]) ^ q[0],
-        (q[12] ^ q[8]) ^ q[1],
-        (q[13] ^ q[9]) ^ q[2],
-        (q[14] ^ q[10]) ^ q[3],
-        (q[15] ^ q[11]) ^ q[4],
-    ]
 }
 
 /// A block more: what is left of the product, the block, and the quotient of both, lane by lane.
@@ -103,6 +71,36 @@ fn lanes_step(q: &[u64], bytes: &[u8], at: usize) -> [u64; 16]
     ]
 }
 
+/// The last block: what is left of the product, and the block. It has no quotient, since no block comes behind it.
+#[inline(always)]
+fn lanes_left(q: &[u64], bytes: &[u8], at: usize) -> [u64; 16]
+    requires lanes { length q.now ≡ 16 }
+    requires at { at + BLOCK ≤ length bytes.now }
+    ensures { (check : ℕ) → IsRemainder (state_of_lanes (map turned q.now) * 2 ^ DEGREE)
+        (fold check_after check (take at bytes.now))
+        → IsRemainder (number_of_lanes (map turned result) * 2 ^ DEGREE)
+        (fold check_after check (take (at + BLOCK) bytes.now)) }
+{
+    [
+        (q[12] ^ (q[5] ^ q[0])) ^ read_lane(bytes, at),
+        (q[13] ^ (q[6] ^ q[1])) ^ read_lane(bytes, at + 8),
+        (q[14] ^ (q[7] ^ q[2])) ^ read_lane(bytes, at + 16),
+        (q[15] ^ (q[8] ^ q[3])) ^ read_lane(bytes, at + 24),
+        (q[9] ^ q[4]) ^ read_lane(bytes, at + 32),
+        (q[10] ^ q[5]) ^ read_lane(bytes, at + 40),
+        (q[11] ^ q[6]) ^ read_lane(bytes, at + 48),
+        (q[12] ^ q[7]) ^ read_lane(bytes, at + 56),
+        (q[13] ^ q[8]) ^ read_lane(bytes, at + 64),
+        (q[14] ^ q[9]) ^ read_lane(bytes, at + 72),
+        (q[15] ^ q[10]) ^ read_lane(bytes, at + 80),
+        q[11] ^ read_lane(bytes, at + 88),
+        q[12] ^ read_lane(bytes, at + 96),
+        q[13] ^ read_lane(bytes, at + 104),
+        q[14] ^ read_lane(bytes, at + 112),
+        q[15] ^ read_lane(bytes, at + 120),
+    ]
+}
+
 /// Two lanes as one number.
 #[inline(always)]
 fn pair(high: u64, low: u64) -> u128
@@ -111,8 +109,8 @@ fn pair(high: u64, low: u64) -> u128
     (u128::from(number_of(high)) << u64::BITS) | u128::from(number_of(low))
 }
 
-/// A state that stands for the same in two lanes.
-#[inline(always)]
+/// A state that stands for the same in two lanes. A call of its own: so all lanes are written, two by two, and are kept so before.
+#[inline(never)]
 fn lanes_narrowed(s: &[u64]) -> u128
     requires { length s.now ≡ 16 }
     ensures { IsCongruent (number_of_lanes (map turned s.now)) result }
@@ -157,16 +155,17 @@ fn lanes_of(state: u128) -> [u64; 16]
 /// The state after the first bytes, in blocks, and how many bytes they are.
 #[inline(always)]
 pub(crate) fn after_blocks(state: u128, bytes: &[u8]) -> (u128, usize)
+    requires { BLOCK ≤ length bytes.now }
     ensures at { result.1 ≤ length bytes.now }
     ensures state { (check : ℕ) → IsRemainder (state * 2 ^ DEGREE) check
         → IsRemainder (result.0 * 2 ^ DEGREE) (fold check_after check (take result.1 bytes.now)) }
 {
     let mut lanes = lanes_of(state);
     let mut at = 0;
-    while bytes.len() - at >= BLOCK {
+    while bytes.len() - at >= 2 * BLOCK {
         lanes = lanes_step(&lanes, bytes, at);
         at += BLOCK;
     }
-    let last = lanes_state(&lanes);
-    (lanes_narrowed(&last), at)
+    let left = lanes_left(&lanes, bytes, at);
+    (lanes_narrowed(&left), at + BLOCK)
 }
