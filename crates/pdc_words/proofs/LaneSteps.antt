@@ -317,16 +317,24 @@ block_step quotient left joined result check at bytes fits le step joined-is sam
 two_lanes : (x y : ℕ) → number_of_lanes (x ∷ y ∷ []) ≡ x * 2 ^ 64 + y
 two_lanes x y = lanes-cons x (y ∷ []) ∙ ap (λ (r : ℕ). x * 2 ^ 64 + r) (lanes-cons y [] ∙ ap (λ (r : ℕ). y * 2 ^ 0 + r) lanes-nil ∙ (omega arith))
 
-pub two_narrowed : (x y pair : ℕ) → pair ≡ x * 2 ^ 64 + y → IsCongruent (number_of_lanes (x ∷ y ∷ [])) pair
-two_narrowed x y pair e = congruent_from (two_lanes x y ∙ sym e)
+four_lanes : (x y z w high low : ℕ) → high ≡ x * 2 ^ 64 + y → low ≡ z * 2 ^ 64 + w → number_of_lanes (x ∷ y ∷ z ∷ w ∷ []) ≡ high * 2 ^ 128 + low
+four_lanes x y z w high low high-is low-is =
+    lanes-append (x ∷ y ∷ []) (z ∷ w ∷ []) ∙ ap₂ (λ (a b : ℕ). a * 2 ^ 128 + b) (two_lanes x y ∙ sym high-is) (two_lanes z w ∙ sym low-is)
 
-pub lanes_narrow_step : (front : List ℕ) (state next x y pair : ℕ) → x < 2 ^ 64 → y < 2 ^ 64 → IsCongruent (number_of_lanes front) state → IsCongruent (state * 2 ^ 128) next → pair ≡ x * 2 ^ 64 + y
-    → IsCongruent (number_of_lanes (front ++ x ∷ y ∷ [])) (bit_xor next pair)
-lanes_narrow_step front state next x y pair hx hy now step pair-is =
-    let below : pair < 2 ^ 128 = omega (arith, hx, hy, pair-is) in
-    let parts : number_of_lanes (front ++ x ∷ y ∷ []) ≡ bit_xor (number_of_lanes front * 2 ^ 128) pair =
-    lanes-append front (x ∷ y ∷ []) ∙ ap (λ (r : ℕ). number_of_lanes front * 2 ^ 128 + r) (two_lanes x y ∙ sym pair-is) ∙ sym (xor_shifted (number_of_lanes front) 128 pair below) in
-    congruent_then (congruent_from parts) (congruent_xor (congruent_then (congruent_shl 128 now) step) (congruent_self pair))
+-- four lanes more behind a state of 256 bits, which is moved up by as many
+lanes_long_step : (front : List ℕ) (high low up down x y z w p q : ℕ) → x < 2 ^ 64 → y < 2 ^ 64 → z < 2 ^ 64 → w < 2 ^ 64
+    → IsCongruent (number_of_lanes front) (high * 2 ^ 128 + low) → IsCongruent ((high * 2 ^ 128 + low) * 2 ^ 256) (up * 2 ^ 128 + down) → down < 2 ^ 128
+    → p ≡ x * 2 ^ 64 + y → q ≡ z * 2 ^ 64 + w
+    → IsCongruent (number_of_lanes (front ++ x ∷ y ∷ z ∷ w ∷ [])) (bit_xor up p * 2 ^ 128 + bit_xor down q)
+lanes_long_step front high low up down x y z w p q hx hy hz hw now step small p-is q-is =
+    let p_fits : p < 2 ^ 128 = omega (arith, hx, hy, p-is) in
+    let q_fits : q < 2 ^ 128 = omega (arith, hz, hw, q-is) in
+    let below : p * 2 ^ 128 + q < 2 ^ 256 = omega (arith, p_fits, q_fits) in
+    let parts : number_of_lanes (front ++ x ∷ y ∷ z ∷ w ∷ []) ≡ bit_xor (number_of_lanes front * 2 ^ 256) (p * 2 ^ 128 + q) =
+    lanes-append front (x ∷ y ∷ z ∷ w ∷ []) ∙ ap (λ (r : ℕ). number_of_lanes front * 2 ^ 256 + r) (four_lanes x y z w p q p-is q-is) ∙ sym (xor_shifted (number_of_lanes front) 256 (p * 2 ^ 128 + q) below) in
+    congruent_then (congruent_from parts)
+    (congruent_then (congruent_xor (congruent_then (congruent_shl 256 now) step) (congruent_self (p * 2 ^ 128 + q)))
+    (congruent_from (xor_block 128 up p down q small q_fits)))
 
 pub zero_lane : (xs : List ℕ) → number_of_lanes (0 ∷ xs) ≡ number_of_lanes xs
 zero_lane xs = lanes-cons 0 xs ∙ (omega arith)
@@ -334,26 +342,21 @@ zero_lane xs = lanes-cons 0 xs ∙ (omega arith)
 pub lanes_of_state : (state high low : ℕ) → state ≡ high * 2 ^ 64 + low → number_of_lanes (0 ∷ 0 ∷ 0 ∷ 0 ∷ 0 ∷ 0 ∷ 0 ∷ 0 ∷ 0 ∷ 0 ∷ 0 ∷ 0 ∷ 0 ∷ 0 ∷ high ∷ low ∷ []) ≡ state
 lanes_of_state state high low e = zero_lane _ ∙ zero_lane _ ∙ zero_lane _ ∙ zero_lane _ ∙ zero_lane _ ∙ zero_lane _ ∙ zero_lane _ ∙ zero_lane _ ∙ zero_lane _ ∙ zero_lane _ ∙ zero_lane _ ∙ zero_lane _ ∙ zero_lane _ ∙ zero_lane _ ∙ two_lanes high low ∙ sym e
 
-pub narrow_lanes : (xs : List ℕ) (p0 p1 p2 p3 p4 p5 p6 p7 n1 n2 n3 n4 n5 n6 n7 : ℕ) → length xs ≡ 16 → ((i : ℕ) → get_or xs i 0 < 2 ^ 64)
-    → p0 ≡ get_or xs 0 0 * 2 ^ 64 + get_or xs 1 0 → IsCongruent (p0 * 2 ^ 128) n1
-    → p1 ≡ get_or xs 2 0 * 2 ^ 64 + get_or xs 3 0 → IsCongruent (bit_xor n1 p1 * 2 ^ 128) n2
-    → p2 ≡ get_or xs 4 0 * 2 ^ 64 + get_or xs 5 0 → IsCongruent (bit_xor n2 p2 * 2 ^ 128) n3
-    → p3 ≡ get_or xs 6 0 * 2 ^ 64 + get_or xs 7 0 → IsCongruent (bit_xor n3 p3 * 2 ^ 128) n4
-    → p4 ≡ get_or xs 8 0 * 2 ^ 64 + get_or xs 9 0 → IsCongruent (bit_xor n4 p4 * 2 ^ 128) n5
-    → p5 ≡ get_or xs 10 0 * 2 ^ 64 + get_or xs 11 0 → IsCongruent (bit_xor n5 p5 * 2 ^ 128) n6
-    → p6 ≡ get_or xs 12 0 * 2 ^ 64 + get_or xs 13 0 → IsCongruent (bit_xor n6 p6 * 2 ^ 128) n7
-    → p7 ≡ get_or xs 14 0 * 2 ^ 64 + get_or xs 15 0
-    → IsCongruent (number_of_lanes xs) (bit_xor n7 p7)
-narrow_lanes xs p0 p1 p2 p3 p4 p5 p6 p7 n1 n2 n3 n4 n5 n6 n7 len fits e0 s1 e1 s2 e2 s3 e3 s4 e4 s5 e5 s6 e6 s7 e7 =
-    let c0 : IsCongruent (number_of_lanes (get_or xs 0 0 ∷ get_or xs 1 0 ∷ [])) p0 = two_narrowed (get_or xs 0 0) (get_or xs 1 0) p0 e0 in
-    let c1 : IsCongruent (number_of_lanes (get_or xs 0 0 ∷ get_or xs 1 0 ∷ get_or xs 2 0 ∷ get_or xs 3 0 ∷ [])) (bit_xor n1 p1) = lanes_narrow_step (get_or xs 0 0 ∷ get_or xs 1 0 ∷ []) p0 n1 (get_or xs 2 0) (get_or xs 3 0) p1 (fits 2) (fits 3) c0 s1 e1 in
-    let c2 : IsCongruent (number_of_lanes (get_or xs 0 0 ∷ get_or xs 1 0 ∷ get_or xs 2 0 ∷ get_or xs 3 0 ∷ get_or xs 4 0 ∷ get_or xs 5 0 ∷ [])) (bit_xor n2 p2) = lanes_narrow_step (get_or xs 0 0 ∷ get_or xs 1 0 ∷ get_or xs 2 0 ∷ get_or xs 3 0 ∷ []) (bit_xor n1 p1) n2 (get_or xs 4 0) (get_or xs 5 0) p2 (fits 4) (fits 5) c1 s2 e2 in
-    let c3 : IsCongruent (number_of_lanes (get_or xs 0 0 ∷ get_or xs 1 0 ∷ get_or xs 2 0 ∷ get_or xs 3 0 ∷ get_or xs 4 0 ∷ get_or xs 5 0 ∷ get_or xs 6 0 ∷ get_or xs 7 0 ∷ [])) (bit_xor n3 p3) = lanes_narrow_step (get_or xs 0 0 ∷ get_or xs 1 0 ∷ get_or xs 2 0 ∷ get_or xs 3 0 ∷ get_or xs 4 0 ∷ get_or xs 5 0 ∷ []) (bit_xor n2 p2) n3 (get_or xs 6 0) (get_or xs 7 0) p3 (fits 6) (fits 7) c2 s3 e3 in
-    let c4 : IsCongruent (number_of_lanes (get_or xs 0 0 ∷ get_or xs 1 0 ∷ get_or xs 2 0 ∷ get_or xs 3 0 ∷ get_or xs 4 0 ∷ get_or xs 5 0 ∷ get_or xs 6 0 ∷ get_or xs 7 0 ∷ get_or xs 8 0 ∷ get_or xs 9 0 ∷ [])) (bit_xor n4 p4) = lanes_narrow_step (get_or xs 0 0 ∷ get_or xs 1 0 ∷ get_or xs 2 0 ∷ get_or xs 3 0 ∷ get_or xs 4 0 ∷ get_or xs 5 0 ∷ get_or xs 6 0 ∷ get_or xs 7 0 ∷ []) (bit_xor n3 p3) n4 (get_or xs 8 0) (get_or xs 9 0) p4 (fits 8) (fits 9) c3 s4 e4 in
-    let c5 : IsCongruent (number_of_lanes (get_or xs 0 0 ∷ get_or xs 1 0 ∷ get_or xs 2 0 ∷ get_or xs 3 0 ∷ get_or xs 4 0 ∷ get_or xs 5 0 ∷ get_or xs 6 0 ∷ get_or xs 7 0 ∷ get_or xs 8 0 ∷ get_or xs 9 0 ∷ get_or xs 10 0 ∷ get_or xs 11 0 ∷ [])) (bit_xor n5 p5) = lanes_narrow_step (get_or xs 0 0 ∷ get_or xs 1 0 ∷ get_or xs 2 0 ∷ get_or xs 3 0 ∷ get_or xs 4 0 ∷ get_or xs 5 0 ∷ get_or xs 6 0 ∷ get_or xs 7 0 ∷ get_or xs 8 0 ∷ get_or xs 9 0 ∷ []) (bit_xor n4 p4) n5 (get_or xs 10 0) (get_or xs 11 0) p5 (fits 10) (fits 11) c4 s5 e5 in
-    let c6 : IsCongruent (number_of_lanes (get_or xs 0 0 ∷ get_or xs 1 0 ∷ get_or xs 2 0 ∷ get_or xs 3 0 ∷ get_or xs 4 0 ∷ get_or xs 5 0 ∷ get_or xs 6 0 ∷ get_or xs 7 0 ∷ get_or xs 8 0 ∷ get_or xs 9 0 ∷ get_or xs 10 0 ∷ get_or xs 11 0 ∷ get_or xs 12 0 ∷ get_or xs 13 0 ∷ [])) (bit_xor n6 p6) = lanes_narrow_step (get_or xs 0 0 ∷ get_or xs 1 0 ∷ get_or xs 2 0 ∷ get_or xs 3 0 ∷ get_or xs 4 0 ∷ get_or xs 5 0 ∷ get_or xs 6 0 ∷ get_or xs 7 0 ∷ get_or xs 8 0 ∷ get_or xs 9 0 ∷ get_or xs 10 0 ∷ get_or xs 11 0 ∷ []) (bit_xor n5 p5) n6 (get_or xs 12 0) (get_or xs 13 0) p6 (fits 12) (fits 13) c5 s6 e6 in
-    let c7 : IsCongruent (number_of_lanes (get_or xs 0 0 ∷ get_or xs 1 0 ∷ get_or xs 2 0 ∷ get_or xs 3 0 ∷ get_or xs 4 0 ∷ get_or xs 5 0 ∷ get_or xs 6 0 ∷ get_or xs 7 0 ∷ get_or xs 8 0 ∷ get_or xs 9 0 ∷ get_or xs 10 0 ∷ get_or xs 11 0 ∷ get_or xs 12 0 ∷ get_or xs 13 0 ∷ get_or xs 14 0 ∷ get_or xs 15 0 ∷ [])) (bit_xor n7 p7) = lanes_narrow_step (get_or xs 0 0 ∷ get_or xs 1 0 ∷ get_or xs 2 0 ∷ get_or xs 3 0 ∷ get_or xs 4 0 ∷ get_or xs 5 0 ∷ get_or xs 6 0 ∷ get_or xs 7 0 ∷ get_or xs 8 0 ∷ get_or xs 9 0 ∷ get_or xs 10 0 ∷ get_or xs 11 0 ∷ get_or xs 12 0 ∷ get_or xs 13 0 ∷ []) (bit_xor n6 p6) n7 (get_or xs 14 0) (get_or xs 15 0) p7 (fits 14) (fits 15) c6 s7 e7 in
-    congruent_then (congruent_from (ap number_of_lanes (sixteen_of xs len))) c7
+pub narrow_lanes : (xs : List ℕ) (p0 p1 p2 p3 p4 p5 p6 p7 u1 d1 u2 d2 u3 d3 moved : ℕ) → length xs ≡ 16 → ((i : ℕ) → get_or xs i 0 < 2 ^ 64)
+    → p0 ≡ get_or xs 0 0 * 2 ^ 64 + get_or xs 1 0 → p1 ≡ get_or xs 2 0 * 2 ^ 64 + get_or xs 3 0 → IsCongruent ((p0 * 2 ^ 128 + p1) * 2 ^ 256) (u1 * 2 ^ 128 + d1) → d1 < 2 ^ 128
+    → p2 ≡ get_or xs 4 0 * 2 ^ 64 + get_or xs 5 0 → p3 ≡ get_or xs 6 0 * 2 ^ 64 + get_or xs 7 0 → IsCongruent ((bit_xor u1 p2 * 2 ^ 128 + bit_xor d1 p3) * 2 ^ 256) (u2 * 2 ^ 128 + d2) → d2 < 2 ^ 128
+    → p4 ≡ get_or xs 8 0 * 2 ^ 64 + get_or xs 9 0 → p5 ≡ get_or xs 10 0 * 2 ^ 64 + get_or xs 11 0 → IsCongruent ((bit_xor u2 p4 * 2 ^ 128 + bit_xor d2 p5) * 2 ^ 256) (u3 * 2 ^ 128 + d3) → d3 < 2 ^ 128
+    → p6 ≡ get_or xs 12 0 * 2 ^ 64 + get_or xs 13 0 → p7 ≡ get_or xs 14 0 * 2 ^ 64 + get_or xs 15 0 → IsCongruent (bit_xor u3 p6 * 2 ^ 128) moved
+    → IsCongruent (number_of_lanes xs) (bit_xor moved (bit_xor d3 p7))
+narrow_lanes xs p0 p1 p2 p3 p4 p5 p6 p7 u1 d1 u2 d2 u3 d3 moved len fits e0 e1 s1 k1 e2 e3 s2 k2 e4 e5 s3 k3 e6 e7 s =
+    let c0 : IsCongruent (number_of_lanes (get_or xs 0 0 ∷ get_or xs 1 0 ∷ get_or xs 2 0 ∷ get_or xs 3 0 ∷ [])) (p0 * 2 ^ 128 + p1) = congruent_from (four_lanes (get_or xs 0 0) (get_or xs 1 0) (get_or xs 2 0) (get_or xs 3 0) p0 p1 e0 e1) in
+    let c1 : IsCongruent (number_of_lanes (get_or xs 0 0 ∷ get_or xs 1 0 ∷ get_or xs 2 0 ∷ get_or xs 3 0 ∷ get_or xs 4 0 ∷ get_or xs 5 0 ∷ get_or xs 6 0 ∷ get_or xs 7 0 ∷ [])) (bit_xor u1 p2 * 2 ^ 128 + bit_xor d1 p3) = lanes_long_step (get_or xs 0 0 ∷ get_or xs 1 0 ∷ get_or xs 2 0 ∷ get_or xs 3 0 ∷ []) p0 p1 u1 d1 (get_or xs 4 0) (get_or xs 5 0) (get_or xs 6 0) (get_or xs 7 0) p2 p3 (fits 4) (fits 5) (fits 6) (fits 7) c0 s1 k1 e2 e3 in
+    let c2 : IsCongruent (number_of_lanes (get_or xs 0 0 ∷ get_or xs 1 0 ∷ get_or xs 2 0 ∷ get_or xs 3 0 ∷ get_or xs 4 0 ∷ get_or xs 5 0 ∷ get_or xs 6 0 ∷ get_or xs 7 0 ∷ get_or xs 8 0 ∷ get_or xs 9 0 ∷ get_or xs 10 0 ∷ get_or xs 11 0 ∷ [])) (bit_xor u2 p4 * 2 ^ 128 + bit_xor d2 p5) = lanes_long_step (get_or xs 0 0 ∷ get_or xs 1 0 ∷ get_or xs 2 0 ∷ get_or xs 3 0 ∷ get_or xs 4 0 ∷ get_or xs 5 0 ∷ get_or xs 6 0 ∷ get_or xs 7 0 ∷ []) (bit_xor u1 p2) (bit_xor d1 p3) u2 d2 (get_or xs 8 0) (get_or xs 9 0) (get_or xs 10 0) (get_or xs 11 0) p4 p5 (fits 8) (fits 9) (fits 10) (fits 11) c1 s2 k2 e4 e5 in
+    let c3 : IsCongruent (number_of_lanes (get_or xs 0 0 ∷ get_or xs 1 0 ∷ get_or xs 2 0 ∷ get_or xs 3 0 ∷ get_or xs 4 0 ∷ get_or xs 5 0 ∷ get_or xs 6 0 ∷ get_or xs 7 0 ∷ get_or xs 8 0 ∷ get_or xs 9 0 ∷ get_or xs 10 0 ∷ get_or xs 11 0 ∷ get_or xs 12 0 ∷ get_or xs 13 0 ∷ get_or xs 14 0 ∷ get_or xs 15 0 ∷ [])) (bit_xor u3 p6 * 2 ^ 128 + bit_xor d3 p7) = lanes_long_step (get_or xs 0 0 ∷ get_or xs 1 0 ∷ get_or xs 2 0 ∷ get_or xs 3 0 ∷ get_or xs 4 0 ∷ get_or xs 5 0 ∷ get_or xs 6 0 ∷ get_or xs 7 0 ∷ get_or xs 8 0 ∷ get_or xs 9 0 ∷ get_or xs 10 0 ∷ get_or xs 11 0 ∷ []) (bit_xor u2 p4) (bit_xor d2 p5) u3 d3 (get_or xs 12 0) (get_or xs 13 0) (get_or xs 14 0) (get_or xs 15 0) p6 p7 (fits 12) (fits 13) (fits 14) (fits 15) c2 s3 k3 e6 e7 in
+    let p7_fits : p7 < 2 ^ 128 = omega (arith, fits 14, fits 15, e7) in
+    let low_fits : bit_xor d3 p7 < 2 ^ 128 = xor_lt 128 d3 p7 k3 p7_fits in
+    let parts : bit_xor u3 p6 * 2 ^ 128 + bit_xor d3 p7 ≡ bit_xor (bit_xor u3 p6 * 2 ^ 128) (bit_xor d3 p7) = sym (xor_shifted (bit_xor u3 p6) 128 (bit_xor d3 p7) low_fits) in
+    congruent_then (congruent_from (ap number_of_lanes (sixteen_of xs len))) (congruent_then c3 (congruent_then (congruent_from parts) (congruent_xor s (congruent_self (bit_xor d3 p7)))))
 
 pub state_lanes : (xs : List ℕ) → length xs ≡ 16 → ((i : ℕ) → get_or xs i 0 < 2 ^ 64) → number_of_lanes (get_or xs 0 0 ∷ get_or xs 1 0 ∷ get_or xs 2 0 ∷ get_or xs 3 0 ∷ bit_xor (get_or xs 4 0) (get_or xs 0 0) ∷ bit_xor (get_or xs 5 0) (get_or xs 1 0) ∷ bit_xor (get_or xs 6 0) (get_or xs 2 0) ∷ bit_xor (get_or xs 7 0) (get_or xs 3 0) ∷ bit_xor (get_or xs 8 0) (get_or xs 4 0) ∷ bit_xor (get_or xs 9 0) (get_or xs 5 0) ∷ bit_xor (get_or xs 10 0) (get_or xs 6 0) ∷ bit_xor (bit_xor (get_or xs 11 0) (get_or xs 7 0)) (get_or xs 0 0) ∷ bit_xor (bit_xor (get_or xs 12 0) (get_or xs 8 0)) (get_or xs 1 0) ∷ bit_xor (bit_xor (get_or xs 13 0) (get_or xs 9 0)) (get_or xs 2 0) ∷ bit_xor (bit_xor (get_or xs 14 0) (get_or xs 10 0)) (get_or xs 3 0) ∷ bit_xor (bit_xor (get_or xs 15 0) (get_or xs 11 0)) (get_or xs 4 0) ∷ []) ≡ state_of_lanes xs
 state_lanes xs len fits = sym (ap state_of_lanes (sixteen_of xs len) ∙ state_of_sixteen (get_or xs 0 0) (get_or xs 1 0) (get_or xs 2 0) (get_or xs 3 0) (get_or xs 4 0) (get_or xs 5 0) (get_or xs 6 0) (get_or xs 7 0) (get_or xs 8 0) (get_or xs 9 0) (get_or xs 10 0) (get_or xs 11 0) (get_or xs 12 0) (get_or xs 13 0) (get_or xs 14 0) (get_or xs 15 0) (fits 0) (fits 1) (fits 2) (fits 3) (fits 4) (fits 5) (fits 6) (fits 7) (fits 8) (fits 9) (fits 10) (fits 11) (fits 12) (fits 13) (fits 14) (fits 15))
@@ -544,18 +547,16 @@ turned_left xs at bytes r0 r1 r2 r3 r4 r5 r6 r7 r8 r9 r10 r11 r12 r13 r14 r15 ch
     turned_block xs at bytes r0 r1 r2 r3 r4 r5 r6 r7 r8 r9 r10 r11 r12 r13 r14 r15 check len bytes_fit le e0 e1 e2 e3 e4 e5 e6 e7 e8 e9 e10 e11 e12 e13 e14 e15 now in
     subst (λ (s : ℕ). IsRemainder (s * 2 ^ 16) (fold check_after check (take (at + 128) bytes))) same whole
 
-pub turned_narrow : (xs : List ℕ) (p0 p1 p2 p3 p4 p5 p6 p7 n1 n2 n3 n4 n5 n6 n7 : ℕ) → length xs ≡ 16 → p0 ≡ turned (get_or xs 0 0) * 2 ^ 64 + turned (get_or xs 1 0) → IsCongruent (p0 * 2 ^ 128) n1
-    → p1 ≡ turned (get_or xs 2 0) * 2 ^ 64 + turned (get_or xs 3 0) → IsCongruent (bit_xor n1 p1 * 2 ^ 128) n2
-    → p2 ≡ turned (get_or xs 4 0) * 2 ^ 64 + turned (get_or xs 5 0) → IsCongruent (bit_xor n2 p2 * 2 ^ 128) n3
-    → p3 ≡ turned (get_or xs 6 0) * 2 ^ 64 + turned (get_or xs 7 0) → IsCongruent (bit_xor n3 p3 * 2 ^ 128) n4
-    → p4 ≡ turned (get_or xs 8 0) * 2 ^ 64 + turned (get_or xs 9 0) → IsCongruent (bit_xor n4 p4 * 2 ^ 128) n5
-    → p5 ≡ turned (get_or xs 10 0) * 2 ^ 64 + turned (get_or xs 11 0) → IsCongruent (bit_xor n5 p5 * 2 ^ 128) n6
-    → p6 ≡ turned (get_or xs 12 0) * 2 ^ 64 + turned (get_or xs 13 0) → IsCongruent (bit_xor n6 p6 * 2 ^ 128) n7
-    → p7 ≡ turned (get_or xs 14 0) * 2 ^ 64 + turned (get_or xs 15 0)
-    → IsCongruent (number_of_lanes (map turned xs)) (bit_xor n7 p7)
-turned_narrow xs p0 p1 p2 p3 p4 p5 p6 p7 n1 n2 n3 n4 n5 n6 n7 len e0 s1 e1 s2 e2 s3 e3 s4 e4 s5 e5 s6 e6 s7 e7 =
+pub turned_narrow : (xs : List ℕ) (p0 p1 p2 p3 p4 p5 p6 p7 u1 d1 u2 d2 u3 d3 moved : ℕ) → length xs ≡ 16
+    → p0 ≡ turned (get_or xs 0 0) * 2 ^ 64 + turned (get_or xs 1 0) → p1 ≡ turned (get_or xs 2 0) * 2 ^ 64 + turned (get_or xs 3 0) → IsCongruent ((p0 * 2 ^ 128 + p1) * 2 ^ 256) (u1 * 2 ^ 128 + d1) → d1 < 2 ^ 128
+    → p2 ≡ turned (get_or xs 4 0) * 2 ^ 64 + turned (get_or xs 5 0) → p3 ≡ turned (get_or xs 6 0) * 2 ^ 64 + turned (get_or xs 7 0) → IsCongruent ((bit_xor u1 p2 * 2 ^ 128 + bit_xor d1 p3) * 2 ^ 256) (u2 * 2 ^ 128 + d2) → d2 < 2 ^ 128
+    → p4 ≡ turned (get_or xs 8 0) * 2 ^ 64 + turned (get_or xs 9 0) → p5 ≡ turned (get_or xs 10 0) * 2 ^ 64 + turned (get_or xs 11 0) → IsCongruent ((bit_xor u2 p4 * 2 ^ 128 + bit_xor d2 p5) * 2 ^ 256) (u3 * 2 ^ 128 + d3) → d3 < 2 ^ 128
+    → p6 ≡ turned (get_or xs 12 0) * 2 ^ 64 + turned (get_or xs 13 0) → p7 ≡ turned (get_or xs 14 0) * 2 ^ 64 + turned (get_or xs 15 0) → IsCongruent (bit_xor u3 p6 * 2 ^ 128) moved
+    → IsCongruent (number_of_lanes (map turned xs)) (bit_xor moved (bit_xor d3 p7))
+turned_narrow xs p0 p1 p2 p3 p4 p5 p6 p7 u1 d1 u2 d2 u3 d3 moved len e0 e1 s1 k1 e2 e3 s2 k2 e4 e5 s3 k3 e6 e7 s =
+    let lanes : List ℕ = turned (get_or xs 0 0) ∷ turned (get_or xs 1 0) ∷ turned (get_or xs 2 0) ∷ turned (get_or xs 3 0) ∷ turned (get_or xs 4 0) ∷ turned (get_or xs 5 0) ∷ turned (get_or xs 6 0) ∷ turned (get_or xs 7 0) ∷ turned (get_or xs 8 0) ∷ turned (get_or xs 9 0) ∷ turned (get_or xs 10 0) ∷ turned (get_or xs 11 0) ∷ turned (get_or xs 12 0) ∷ turned (get_or xs 13 0) ∷ turned (get_or xs 14 0) ∷ turned (get_or xs 15 0) ∷ [] in
     congruent_then (congruent_from (ap number_of_lanes (turned_literal xs len)))
-    (narrow_lanes (turned (get_or xs 0 0) ∷ turned (get_or xs 1 0) ∷ turned (get_or xs 2 0) ∷ turned (get_or xs 3 0) ∷ turned (get_or xs 4 0) ∷ turned (get_or xs 5 0) ∷ turned (get_or xs 6 0) ∷ turned (get_or xs 7 0) ∷ turned (get_or xs 8 0) ∷ turned (get_or xs 9 0) ∷ turned (get_or xs 10 0) ∷ turned (get_or xs 11 0) ∷ turned (get_or xs 12 0) ∷ turned (get_or xs 13 0) ∷ turned (get_or xs 14 0) ∷ turned (get_or xs 15 0) ∷ []) p0 p1 p2 p3 p4 p5 p6 p7 n1 n2 n3 n4 n5 n6 n7 refl (lanes_at (turned (get_or xs 0 0) ∷ turned (get_or xs 1 0) ∷ turned (get_or xs 2 0) ∷ turned (get_or xs 3 0) ∷ turned (get_or xs 4 0) ∷ turned (get_or xs 5 0) ∷ turned (get_or xs 6 0) ∷ turned (get_or xs 7 0) ∷ turned (get_or xs 8 0) ∷ turned (get_or xs 9 0) ∷ turned (get_or xs 10 0) ∷ turned (get_or xs 11 0) ∷ turned (get_or xs 12 0) ∷ turned (get_or xs 13 0) ∷ turned (get_or xs 14 0) ∷ turned (get_or xs 15 0) ∷ []) (turned_fit xs)) e0 s1 e1 s2 e2 s3 e3 s4 e4 s5 e5 s6 e6 s7 e7)
+    (narrow_lanes lanes p0 p1 p2 p3 p4 p5 p6 p7 u1 d1 u2 d2 u3 d3 moved refl (lanes_at lanes (turned_fit xs)) e0 e1 s1 k1 e2 e3 s2 k2 e4 e5 s3 k3 e6 e7 s)
 
 -- a lane that is turned back
 pub turned_from : (lane number : ℕ) → number < 2 ^ 64 → lane ≡ from_le_bytes w64 (to_be_bytes w64 number) → turned lane ≡ number

@@ -88,7 +88,7 @@ pub(crate) fn wide_moved_up(state: u128) -> u128
 /// A long state, in two halves, that stands for state * x^256: what is left of it behind the sixteenth power,
 /// x^256 + x^192 + x^80 + 1.
 #[inline(always)]
-fn long_moved_up(high: u128, low: u128) -> (u128, u128)
+pub(crate) fn long_moved_up(high: u128, low: u128) -> (u128, u128)
     ensures congruent { IsCongruent ((high * 2 ^ WIDE_BITS +
         low) * 2 ^ LONG_BITS) (result.0 * 2 ^ WIDE_BITS + result.1) }
     ensures low { result.1 < 2 ^ WIDE_BITS }

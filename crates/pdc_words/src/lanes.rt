@@ -7,7 +7,7 @@ ghost use Rattle.pdc_words.specs.CheckWord.{IsCongruent, IsRemainder, check_afte
 ghost use Rattle.pdc_words.specs.Lanes.{number_of_lanes, state_of_lanes, turned};
 ghost use Rattle.pdc_words.specs.declared.crc.TheConstants.{DEGREE};
 
-use crate::crc::wide_moved_up;
+use crate::crc::{long_moved_up, wide_moved_up};
 
 /// The number of bytes of a block.
 pub(crate) const BLOCK: usize = 128;
@@ -115,14 +115,12 @@ fn lanes_narrowed(s: &[u64]) -> u128
     requires { length s.now ≡ 16 }
     ensures { IsCongruent (number_of_lanes (map turned s.now)) result }
 {
-    let a = pair(s[0], s[1]);
-    let b = wide_moved_up(a) ^ pair(s[2], s[3]);
-    let c = wide_moved_up(b) ^ pair(s[4], s[5]);
-    let d = wide_moved_up(c) ^ pair(s[6], s[7]);
-    let e = wide_moved_up(d) ^ pair(s[8], s[9]);
-    let f = wide_moved_up(e) ^ pair(s[10], s[11]);
-    let g = wide_moved_up(f) ^ pair(s[12], s[13]);
-    wide_moved_up(g) ^ pair(s[14], s[15])
+    let (up, down) = long_moved_up(pair(s[0], s[1]), pair(s[2], s[3]));
+    let (high, low) = (up ^ pair(s[4], s[5]), down ^ pair(s[6], s[7]));
+    let (up, down) = long_moved_up(high, low);
+    let (high, low) = (up ^ pair(s[8], s[9]), down ^ pair(s[10], s[11]));
+    let (up, down) = long_moved_up(high, low);
+    wide_moved_up(up ^ pair(s[12], s[13])) ^ (down ^ pair(s[14], s[15]))
 }
 
 /// A state as lanes.
