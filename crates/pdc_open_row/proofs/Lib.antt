@@ -1,6 +1,7 @@
 pub mod Alike
 pub mod Blank
 pub mod CutParts
+pub mod FrontRows
 pub mod HeldOnce
 pub mod OpenRowParts
 pub mod RowSteps

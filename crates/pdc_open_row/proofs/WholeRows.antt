@@ -1,5 +1,5 @@
 -- Rows whose columns all have a shape, and are laid out in it.
-use Rattle.std.proofs.Common.{◌≡◌, ◌∙◌, ◌+◌, ◌%◌, ◌<◌, ◌≤◌, ℕ, Bool, true, false, not, true≢false, List, [], ◌∷◌, ◌++◌, None, Option, Some, add-one, ap, append-nil, arith, cond, drop, get_or, length, map, nat_eq, refl, replicate, set, subst, suc, sym, take, zero}
+use Rattle.std.proofs.Common.{◌≡◌, ◌∙◌, ◌+◌, ◌%◌, ◌<◌, ℕ, Bool, true, false, not, true≢false, List, [], ◌∷◌, ◌++◌, None, Option, Some, ap, append-nil, arith, cond, drop, get_or, length, map, nat_eq, refl, replicate, set, suc, sym, take, zero}
 use Rattle.std.specs.Prelude.{max, option_map}
 use Rattle.std.specs.Option.{option_to_list}
 use Rattle.std.specs.Cmp.Lexicographic.{pointwise, same_text}
@@ -9,10 +9,10 @@ use Rattle.pdc_row.specs.pdc_cfg.declared.shape.Shape.{Shape}
 use Rattle.pdc_row.specs.CellView.{BlockView, CellView, absent_of, absent_view, is_present}
 use Rattle.pdc_row.specs.Chosen.{block_or_absent, first_of, present_of}
 use Rattle.pdc_row.specs.KeptBlocks.{shapes_of}
-use Rattle.pdc_row.specs.Quality.{greatest, quality_of, time_quality_of, worst_of}
+use Rattle.pdc_row.specs.Quality.{greatest, quality_of, time_quality_of}
 use Rattle.pdc_open_row.specs.Chosen.{block_in, chosen_of}
-use Rattle.pdc_open_row.specs.OpenRowParts.{block_of_second, column_of, columns_of, nothing, worst_kept}
-use Rattle.pdc_open_row.specs.Row.{blocks_at, blocks_of, qualities_at, qualities_of}
+use Rattle.pdc_open_row.specs.OpenRowParts.{column_of, columns_of, nothing}
+use Rattle.pdc_open_row.specs.Row.{blocks_of, qualities_at, qualities_of}
 use Rattle.pdc_open_row.specs.Views.{ColumnView, empty_column, kept}
 use Rattle.pdc_open_row.specs.declared.column.Held.{Held}
 use Rattle.pdc_open_row.proofs.OpenRowParts.{column_at}
@@ -110,7 +110,7 @@ kept_or_absent : (b : Bool) (f : BlockView) (q : ℕ) → (b ≡ false → absen
 kept_or_absent true f q absent = refl
 kept_or_absent false f q absent = absent refl
 
-not_other : (b : Bool) → not b ≡ false → b ≡ true
+pub not_other : (b : Bool) → not b ≡ false → b ≡ true
 not_other true e = refl
 not_other false e = absurd (true≢false e)
 

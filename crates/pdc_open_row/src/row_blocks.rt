@@ -1,6 +1,7 @@
 //! The blocks of a row, and the worst quality of them, as the row is written column after column.
 ghost use Rattle.std.specs.Prelude.{◌≡◌, ℕ, ◌+◌, ◌<◌, ◌≤◌, ◌++◌, ◌∷◌, List, length, [], false, map};
-ghost use Rattle.std.specs.Prelude.{option_map, replicate, Some, slice_index_or, slice_set, true};
+ghost use Rattle.std.specs.Prelude.{drop, option_map, replicate, Some, slice_index_or, slice_set};
+ghost use Rattle.std.specs.Prelude.{take, true};
 ghost use Rattle.std.specs.Option.{option_to_list};
 ghost use Rattle.pdc_row.specs.Chosen.{block_or_absent};
 ghost use Rattle.pdc_row.specs.CellView.{BlockView};
@@ -90,6 +91,35 @@ pub fn worst_of_one(held: Held, first: &RowBlocks) -> u32
     0
 }
 
+/// How many columns from the front on give a present block of lane 0, and the number above the worst quality of these. Nearly always that is
+/// the whole row, and then no block is looked at again.
+fn front_of_first(held: &Lanes, first: &RowBlocks) -> (usize, u32)
+    requires { length first.now ≡ length held.now }
+    ensures blocks { (second : List BlockView) → length second ≡ length held.now →
+        take result.0 (blocks_of (map Some (shapes_of first.now))
+        (columns_of held.now first.now second)) ++ drop result.0 first.now ≡ first.now }
+    ensures quality { (second : List BlockView) → length second ≡ length held.now →
+        worst_of (worst_kept result.1) (qualities_of (drop result.0
+        (map Some (shapes_of first.now))) (drop result.0 (columns_of held.now first.now second)))
+        ≡ quality_of (qualities_of (map Some (shapes_of first.now))
+        (columns_of held.now first.now second)) }
+    ensures most { result.0 ≤ length first.now }
+    ensures fits { result.1 ≤ WORST_QUALITY + 1 }
+{
+    let mut above = 0;
+    for place in 0..first.len() {
+        let here = held.at(place);
+        if !here.first {
+            return (place, above);
+        }
+        if !first.is_present(place) {
+            return (place, above);
+        }
+        above = worse(above, here.first_quality % 16);
+    }
+    (first.len(), above)
+}
+
 /// Writes what the columns give over blocks that are those of lane 0, whose shapes are wanted, and answers the number above the worst quality.
 pub fn give_over(held: &Lanes, first: &RowBlocks, second: &RowBlocks, blocks: &mut RowBlocks) -> u32
     requires first { length first.now ≡ length held.now }
@@ -102,9 +132,17 @@ pub fn give_over(held: &Lanes, first: &RowBlocks, second: &RowBlocks, blocks: &m
     ensures fits { result ≤ WORST_QUALITY + 1 }
 {
     let shapes = first.shapes();
-    let mut above = 0;
-    for (place, shape) in shapes.iter().enumerate() {
-        above = give_one_over(held.at(place), first, second, place, *shape, blocks, above);
+    let (front, mut above) = front_of_first(held, first);
+    for place in front..shapes.len() {
+        above = give_one_over(
+            held.at(place),
+            first,
+            second,
+            place,
+            shapes[place],
+            blocks,
+            above,
+        );
     }
     above
 }

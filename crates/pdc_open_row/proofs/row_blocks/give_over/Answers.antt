@@ -1,7 +1,7 @@
-use Rattle.std.proofs.Common.{◌≡◌, ◌∙◌, ◌+◌, ◌<◌, ◌++◌, ℕ, List, Option, Some, ap, arith, drop, get_or, length, map, set, subst, sym, take}
+use Rattle.std.proofs.Common.{◌≡◌, ◌∙◌, ◌+◌, ◌<◌, ◌++◌, ℕ, List, Some, ap, arith, drop, get_or, length, map, set, sym, take}
 use Rattle.std.specs.Option.{option_to_list}
 use Rattle.std.specs.Prelude.{option_map}
-use Rattle.std.proofs.lemmas.List.{get_or_default, length-map}
+use Rattle.std.proofs.lemmas.List.{length-map}
 use Rattle.pdc_row.specs.pdc_cfg.declared.shape.Shape.{Shape}
 use Rattle.pdc_row.specs.CellView.{BlockView}
 use Rattle.pdc_row.specs.KeptBlocks.{shapes_of}
@@ -16,6 +16,13 @@ use Rattle.pdc_open_row.proofs.row_blocks.give_over.Goals as goal
 -- the place of the loop is one of the blocks
 abbrev blocks_given : List Held → (first second : List BlockView) → List BlockView
 blocks_given held first second = blocks_of (map (λ (s : Shape). Some s) (shapes_of first)) (columns_of held first second)
+
+pub loop-place-init : goal.loop-place-init
+loop-place-init c = record {
+  blocks = c.requires.same ∙ sym (c.front_of_first-front.ensures.blocks c.args.second.now c.requires.second);
+  quality = c.front_of_first-front.ensures.quality c.args.second.now c.requires.second;
+  fits = c.front_of_first-front.ensures.fits;
+}
 
 pub give_one_over-above-requires-clause-there : goal.give_one_over-above-requires-clause-there
 give_one_over-above-requires-clause-there c =

@@ -1,8 +1,7 @@
-use Rattle.std.proofs.Common.{◌∙◌, ◌+◌, ◌%◌, ◌≡◌, ℕ, Some, [], suc, ap, arith, get_or, map, replicate, length, sym}
-use Rattle.pdc_row.specs.CellView.{BlockView}
+use Rattle.std.proofs.Common.{◌∙◌, ◌+◌, ◌%◌, ◌≡◌, [], suc, ap, arith, sym}
 use Rattle.pdc_row.specs.Quality.{quality_of, worst_of}
 use Rattle.pdc_open_row.specs.OpenRowParts.{worst_kept}
-use Rattle.pdc_open_row.proofs.WholeRows.{none_present, of_present, qualities_once, quality_of_present, spare}
+use Rattle.pdc_open_row.proofs.WholeRows.{none_present, qualities_once, quality_of_present, spare}
 use Rattle.pdc_open_row.proofs.row_blocks.worst_of_one.Goals as goal
 
 pub returns-then-is_present-clause-value : goal.returns-then-is_present-clause-value
