@@ -2,6 +2,7 @@
 ghost use Rattle.std.specs.Prelude.{◌≡◌, ◌≤◌, ℕ, length};
 
 use crate::frames::FLOOR;
+use crossbeam_utils::CachePadded;
 use pdc_ports::{Next, Numbered, Outcome, Sink, SinkFault, Source, Ticker};
 use pdc_service::Outlet;
 use std::sync::atomic::{AtomicU64, Ordering};
@@ -49,11 +50,11 @@ impl<'a> Source for Feed<'a> {
 
     fn next(&mut self, buffer: &mut [u8]) -> Next {
         // What was given before was delivered, since more is asked for.
-        self.delivered.store(self.given as u64, Ordering::SeqCst);
+        self.delivered.store(self.given as u64, Ordering::Release);
         let Some(frame) = self.frames.get(self.given) else {
             return Next::End;
         };
-        if self.given as u64 > self.released.load(Ordering::SeqCst) {
+        if self.given as u64 > self.released.load(Ordering::Acquire) {
             thread::yield_now();
             return Next::Idle;
         }
@@ -77,7 +78,7 @@ impl<'a> Source for Feed<'a> {
 /// once all frames were delivered.
 #[derive(Drop)]
 pub struct Following<'a> {
-    delivered: &'a [AtomicU64],
+    delivered: &'a [CachePadded<AtomicU64>],
     released: &'a AtomicU64,
     /// How many frames of each source there are.
     count: u64,
@@ -87,7 +88,11 @@ pub struct Following<'a> {
 
 impl<'a> Following<'a> {
     /// A ticker that has not ticked yet.
-    pub fn new(delivered: &'a [AtomicU64], released: &'a AtomicU64, count: u64) -> Following<'a> {
+    pub fn new(
+        delivered: &'a [CachePadded<AtomicU64>],
+        released: &'a AtomicU64,
+        count: u64,
+    ) -> Following<'a> {
         Following {
             delivered,
             released,
@@ -100,7 +105,7 @@ impl<'a> Following<'a> {
     fn least(&self) -> u64 {
         let mut least = u64::MAX;
         for delivered in self.delivered {
-            least = least.min(delivered.load(Ordering::SeqCst));
+            least = least.min(delivered.load(Ordering::Acquire));
         }
         least
     }
@@ -114,7 +119,7 @@ impl<'a> Ticker for Following<'a> {
         // The first tick adopts the configurations; only then the data are released.
         if self.done > 0 {
             self.released
-                .store(self.done.saturating_add(AHEAD), Ordering::SeqCst);
+                .store(self.done.saturating_add(AHEAD), Ordering::Release);
         }
         for _ in 0..TURNS {
             let least = self.least();

@@ -3,6 +3,7 @@ ghost use Rattle.std.specs.Prelude.{◌≡◌, vec_len, IfSome};
 
 use crate::feed::{Discard, Feed, Following};
 use crate::frames::{FLOOR, Frames};
+use crossbeam_utils::CachePadded;
 use pdc_life::Settings;
 use pdc_mark::ModelMark;
 use pdc_service::{Begun, MAX_LIMIT, Plan, Totals, hand_over, run_node};
@@ -20,11 +21,11 @@ fn plan() -> Plan {
     }
 }
 
-/// A counter for each stream.
-fn counters(alloc: Global, count: usize) -> Option<Vec<AtomicU64>> {
+/// A counter for each stream, which has a line of the processor's cache for itself: else threads that count apart would wait for each other.
+fn counters(alloc: Global, count: usize) -> Option<Vec<CachePadded<AtomicU64>>> {
     let mut counters = Vec::new(alloc);
     for _ in 0..count {
-        if counters.push(AtomicU64::new(0)).is_err() {
+        if counters.push(CachePadded::new(AtomicU64::new(0))).is_err() {
             return None;
         }
     }
@@ -35,7 +36,7 @@ fn counters(alloc: Global, count: usize) -> Option<Vec<AtomicU64>> {
 fn feeds<'a>(
     alloc: Global,
     frames: &'a Frames,
-    delivered: &'a [AtomicU64],
+    delivered: &'a [CachePadded<AtomicU64>],
     released: &'a AtomicU64,
 ) -> Option<Vec<Feed<'a>>> {
     let mut feeds = Vec::new(alloc);
@@ -55,7 +56,7 @@ pub fn run_side_by_side<R: Threads + Wait + Sync>(
     frames: &Frames,
 ) -> Option<Totals> {
     let delivered = counters(alloc, frames.streams.len())?;
-    let released = AtomicU64::new(0);
+    let released = CachePadded::new(AtomicU64::new(0));
     let sources = feeds(alloc, frames, &delivered, &released)?;
     if sources.len() != settings.pmus.len() {
         return None;

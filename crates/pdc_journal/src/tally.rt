@@ -1,5 +1,6 @@
 //! How the datagrams of one stream were answered.
 
+use crossbeam_utils::CachePadded;
 use pdc_complaints::Of;
 use pdc_ports::{Counts, Outcome};
 use std::sync::atomic::{AtomicU64, Ordering};
@@ -10,7 +11,8 @@ use std::sync::{Mutex, Wait};
 pub struct Tally {
     /// Whose stream it is.
     pub of: Of,
-    counts: Mutex<Counts>,
+    /// They have lines of the processor's cache for themselves: else streams that are counted side by side would wait for each other.
+    counts: CachePadded<Mutex<Counts>>,
     /// How many datagrams came from another address than its own.
     strangers: AtomicU64,
     /// How many connections over which it came were lost, or refused.
@@ -24,7 +26,7 @@ impl Tally {
     pub fn new(of: Of) -> Tally {
         Tally {
             of,
-            counts: Mutex::new(Counts::new()),
+            counts: CachePadded::new(Mutex::new(Counts::new())),
             strangers: AtomicU64::new(0),
             lost: AtomicU64::new(0),
             left_out: AtomicU64::new(0),
