@@ -49,11 +49,7 @@ impl<'a, T: Table> Aligner<'a, T> {
         }
         Ok(Aligner {
             table: T::new(alloc, window, STREAMS, 1, 0)?,
-            layout: RowLayout {
-                start: 1,
-                change: 0,
-                shapes,
-            },
+            layout: RowLayout::new(1, 0, shapes),
             bodies,
             row: spare_row(),
             mixed: 0,

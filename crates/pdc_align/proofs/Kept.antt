@@ -1,5 +1,5 @@
 -- What is kept beside the columns stays what is kept of them.
-use Rattle.std.proofs.Common.{◌≡◌, ℕ, ◌+◌, Bool, true, false, cond, leb, not, List, [], ◌∷◌, append-nil, get_or, length, set, zero, suc, Option, refl, sym, ap, ◌∙◌, arith}
+use Rattle.std.proofs.Common.{◌≡◌, ℕ, ◌+◌, Bool, true, false, cond, leb, not, List, [], ◌∷◌, append-nil, get_or, length, map, set, zero, suc, Option, refl, sym, ap, ◌∙◌, arith}
 use Rattle.std.specs.Prelude.{max}
 use Rattle.std.specs.List.{list_any, refill}
 use Rattle.std.proofs.lemmas.List.{drop_all, take_all}
@@ -31,6 +31,29 @@ shapes_held (part ∷ parts) columns =
 pub shapes_cleared : (first : ℕ) (counts : List ℕ) (columns : List ColumnState) → shapes_in (cleared_from first counts columns) ≡ shapes_in columns
 shapes_cleared first counts [] = refl
 shapes_cleared first counts (column ∷ columns) = ap (λ xs. shape_in column.in_force ∷ xs) (shapes_cleared (first + 1) counts columns)
+
+-- ---- the sections in force: they stay as well
+
+abbrev pub forces : List ColumnState → List (Option SectionFields)
+forces columns = map (λ (column : ColumnState). column.in_force) columns
+
+if_held_too : (b : Bool) (s : Option SectionFields) (column : ColumnState) → (cond b (record column { held = s }) column).in_force ≡ column.in_force
+if_held_too true s column = refl
+if_held_too false s column = refl
+
+force_held : (n : ℕ) (s : SectionFields) (columns : List ColumnState) → forces (set columns n (with_section s (get_or columns n no_column))) ≡ forces columns
+force_held n s [] = refl
+force_held zero s (column ∷ columns) = ap (λ x. x ∷ forces columns) (if_held_too (leb column.opening s.count) (greater column.held s) column)
+force_held (suc n) s (column ∷ columns) = ap (λ xs. column.in_force ∷ xs) (force_held n s columns)
+
+pub forces_held : (parts : List (ℕ × SectionFields)) (columns : List ColumnState) → forces (with_sections parts columns) ≡ forces columns
+forces_held [] columns = refl
+forces_held (part ∷ parts) columns =
+    forces_held parts (set columns part.0 (with_section part.1 (get_or columns part.0 no_column))) ∙ force_held part.0 part.1 columns
+
+pub forces_cleared : (first : ℕ) (counts : List ℕ) (columns : List ColumnState) → forces (cleared_from first counts columns) ≡ forces columns
+forces_cleared first counts [] = refl
+forces_cleared first counts (column ∷ columns) = ap (λ xs. column.in_force ∷ xs) (forces_cleared (first + 1) counts columns)
 
 -- ---- the counts: to clear them twice is to clear them once
 

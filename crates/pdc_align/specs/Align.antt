@@ -44,6 +44,10 @@ pub record AlignmentView : Type 0 where
   pub disagreements : ℕ
   pub popped : ℕ
 
+-- the section in force of each column
+abbrev pub in_force_in : State → List (Option SectionFields)
+in_force_in a = map (λ (column : ColumnState). column.in_force) a.columns
+
 -- It has so many columns and lanes,
 pub record HasSizes (columns lanes : ℕ) (a : State) : Type 0 where
   pub column_count : a.content.columns ≡ columns
@@ -56,10 +60,12 @@ pub record KeepsSizes (old new : State) : Type 0 where
   pub lanes : new.content.lanes ≡ old.content.lanes
   pub each : length new.columns ≡ length old.columns
 
--- What no call changes but a tick and a pop: its sizes and its memory, how many cells disagreed, and the last instant popped.
+-- What no call changes but a tick and a pop: its sizes and its memory, the sections in force, how many cells disagreed, and the last
+-- instant popped.
 pub record Unchanged (old new : AlignmentView) : Type 0 where
   pub sizes : KeepsSizes old.state new.state
   pub memory : new.memory ≡ old.memory
+  pub in_force : in_force_in new.state ≡ in_force_in old.state
   pub disagreements : new.disagreements ≡ old.disagreements
   pub popped : new.popped ≡ old.popped
 

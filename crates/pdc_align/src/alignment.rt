@@ -15,7 +15,7 @@ ghost use Rattle.pdc_arrival.specs.declared.arrival.ColumnSection.{ColumnSection
 ghost use Rattle.pdc_arrival.specs.pdc_life.Given.{Given};
 ghost use Rattle.pdc_arrival.specs.pdc_life.Life.{Entry, changes, held_section, section_in_force};
 ghost use Rattle.pdc_align.specs.State.{shape_in};
-ghost use Rattle.pdc_align.specs.Align.{KeepsSizes, StandsFor, Unchanged};
+ghost use Rattle.pdc_align.specs.Align.{KeepsSizes, StandsFor, Unchanged, in_force_in};
 ghost use Rattle.pdc_align.specs.Popped.{popped_after};
 ghost use Rattle.pdc_align.specs.Slot.{count_in};
 ghost use Rattle.pdc_align.specs.Calls.{column_in, after_hold, after_pop_of, first_content};
@@ -175,11 +175,7 @@ impl<T: Table> Alignment<T> {
             current: now,
             lanes: plan.lanes,
             columns,
-            layout: RowLayout {
-                start,
-                change: 0,
-                shapes,
-            },
+            layout: RowLayout::new(start, 0, shapes),
             cleared: [0; MAX_PMUS],
             is_quiet: false,
             table: new_table(alloc, plan, floor)?,
@@ -224,6 +220,7 @@ impl<T: Table> Alignment<T> {
         ensures answer { option_map row_view result ≡ table.pop_answer self.old.state.content }
         ensures state { self.new.state ≡ after_pop_of self.old.state }
         ensures sizes { KeepsSizes self.old.state self.new.state }
+        ensures in_force { in_force_in self.new.state ≡ in_force_in self.old.state }
         ensures memory { self.new.memory ≡ self.old.memory }
         ensures disagreements { self.new.disagreements ≡ self.old.disagreements }
         ensures rises { IfSome result (λ row. self.old.popped < row.instant) }
@@ -243,6 +240,7 @@ impl<T: Table> Alignment<T> {
         ensures none { result ≡ false → row.new ≡ row.old }
         ensures state { self.new.state ≡ after_pop_of self.old.state }
         ensures sizes { KeepsSizes self.old.state self.new.state }
+        ensures in_force { in_force_in self.new.state ≡ in_force_in self.old.state }
         ensures memory { self.new.memory ≡ self.old.memory }
         ensures disagreements { self.new.disagreements ≡ self.old.disagreements }
         ensures rises { IfSome (popped_into result row.new)
@@ -275,11 +273,11 @@ impl<T: Table> Alignment<T> {
     pub(crate) fn layout(&self) -> RowLayout
         ensures { layout_view result ≡ row_layout_in self.now.state }
     {
-        RowLayout {
-            start: self.layout.start,
-            change: self.layout.change,
-            shapes: columns::shapes(self.columns.as_slice()),
-        }
+        RowLayout::new(
+            self.layout.start,
+            self.layout.change,
+            columns::shapes(self.columns.as_slice()),
+        )
     }
 
     /// The counts that wait to be stored.

@@ -1,5 +1,5 @@
 //! The calls of an alignment, said of every life that it stands for: each is a step, and the laws by which the step follows the life.
-ghost use Rattle.std.specs.Prelude.{◌≡◌, ◌<◌, ◌≤◌, [], ◌∷◌, ℕ, List, IfOk, IfSome, Option, false};
+ghost use Rattle.std.specs.Prelude.{◌≡◌, ◌<◌, ◌≤◌, [], ◌∷◌, ℕ, List, IfOk, IfSome, None, Option, false};
 ghost use Rattle.std.specs.Prelude.{length, map, option_map, OnErr};
 ghost use Rattle.pdc_memory.specs.Asking.{SomeWasRefused};
 ghost use Rattle.std.specs.List.{All};
@@ -9,7 +9,7 @@ ghost use Rattle.pdc_arrival.specs.pdc_row.RowView.{RowView, row_view};
 ghost use Rattle.pdc_table.specs.Content.{IsPut};
 ghost use Rattle.pdc_table.specs.KeptRow.{popped_into};
 ghost use Rattle.pdc_table.specs.pdc_open_row.Layout.{layout_view};
-ghost use Rattle.pdc_table.specs.pdc_open_row.Parts.{cut_cells, parts_len};
+ghost use Rattle.pdc_table.specs.pdc_open_row.Parts.{cut_cells, laid_out, parts_len};
 ghost use Rattle.pdc_table.specs.pdc_open_row.Taking.{body_cells_of};
 ghost use Rattle.pdc_arrival.specs.Views.{section_part};
 ghost use Rattle.pdc_arrival.specs.declared.arrival.ColumnSection.{ColumnSection as ColumnSectionData};
@@ -23,7 +23,7 @@ ghost use Rattle.pdc_arrival.specs.pdc_life.Run.{IsRun};
 ghost use Rattle.pdc_arrival.specs.pdc_life.declared.outcome.Outcome.TheVariants.{Candidate};
 ghost use Rattle.pdc_align.specs.State.{row_layout_of};
 ghost use Rattle.pdc_align.specs.Align.{HasSizes, KeepsSizes, StandsFor, Unchanged, given_by};
-ghost use Rattle.pdc_align.specs.Align.{ticked_of};
+ghost use Rattle.pdc_align.specs.Align.{in_force_in, ticked_of};
 ghost use Rattle.pdc_align.specs.Popped.{popped_after};
 ghost use Rattle.pdc_align.specs.Calls.{disagreements_at};
 
@@ -31,7 +31,7 @@ use crate::closing_laws::{rows_are_those, tick_is_tick};
 use crate::state_laws::{answers_agree, others_leave_it, take_is_take};
 use crate::{Alignment, Plan, Ticked};
 use pdc_arrival::{Body, ColumnSection, MAX_PMUS, Outcome};
-use pdc_table::{DueRow, Part, RowLayout, Table};
+use pdc_table::{DueRow, Part, RowLayout, Shapes, Table};
 use std::alloc::{AllocError, Global};
 
 impl<T: Table> Alignment<T> {
@@ -85,12 +85,14 @@ impl<T: Table> Alignment<T> {
         self.offer(stream, instant, cells, quality)
     }
 
-    /// The same, with blocks that lie one after the other in these bytes of the payload: each part tells the column and the shape of one.
+    /// The same, with blocks that lie one after the other in these bytes of the payload: each part tells the column and the shape of
+    /// one. Where the parts are one for each column, their shapes are told too (`laid_out`).
     pub fn put_parts<P: Part>(
         &mut self,
         stream: usize,
         instant: u64,
         parts: &[P],
+        laid: Option<&Shapes>,
         bytes: &[u8],
         quality: u8,
     ) -> Outcome
@@ -98,6 +100,8 @@ impl<T: Table> Alignment<T> {
             (cut_cells P.column_of P.shape_of parts.now quality (words_in bytes.now)) }
         requires size { length bytes.now ≡ parts_len P.shape_of parts.now }
         requires few { length parts.now ≤ MAX_PMUS }
+        requires laid { option_map (λ shapes. shapes.now) laid ≡
+            laid_out P.column_of P.shape_of parts.now }
         ensures answer { (g : Given) (E : List Entry) → StandsFor g E self.old.state →
             result ≡ outcome_in_time g E stream instant
             (cut_cells P.column_of P.shape_of parts.now quality (words_in bytes.now)) }
@@ -114,7 +118,7 @@ impl<T: Table> Alignment<T> {
         answers_agree();
         take_is_take();
         others_leave_it();
-        self.offer_parts(stream, instant, parts, bytes, quality)
+        self.offer_parts(stream, instant, parts, laid, bytes, quality)
     }
 
     /// Holds the sections of a layout that is a candidate, each in its column: of the greatest count, the first of that count.
@@ -141,6 +145,9 @@ impl<T: Table> Alignment<T> {
         ensures stands { (g : Given) (E : List Entry) → StandsFor g E self.old.state →
             StandsFor g (Tick now counts.now (tick_answer g E now counts.now) ∷ E) self.new.state }
         ensures sizes { KeepsSizes self.old.state self.new.state }
+        // Where nothing was adopted, the sections in force are the same.
+        ensures in_force { result.change ≡ None →
+            in_force_in self.new.state ≡ in_force_in self.old.state }
         ensures memory { self.new.memory ≡ self.old.memory }
         ensures disagreements { self.new.disagreements ≡
             disagreements_at self.old.disagreements self.old.state now }
@@ -158,6 +165,7 @@ impl<T: Table> Alignment<T> {
         ensures stands { (g : Given) (E : List Entry) → StandsFor g E self.old.state →
             StandsFor g (Pop (pop_answer E) ∷ E) self.new.state }
         ensures sizes { KeepsSizes self.old.state self.new.state }
+        ensures in_force { in_force_in self.new.state ≡ in_force_in self.old.state }
         ensures memory { self.new.memory ≡ self.old.memory }
         ensures disagreements { self.new.disagreements ≡ self.old.disagreements }
         // Its instant is above all that were popped before, and above the floor.
@@ -176,6 +184,7 @@ impl<T: Table> Alignment<T> {
         ensures stands { (g : Given) (E : List Entry) → StandsFor g E self.old.state →
             StandsFor g (Pop (pop_answer E) ∷ E) self.new.state }
         ensures sizes { KeepsSizes self.old.state self.new.state }
+        ensures in_force { in_force_in self.new.state ≡ in_force_in self.old.state }
         ensures memory { self.new.memory ≡ self.old.memory }
         ensures disagreements { self.new.disagreements ≡ self.old.disagreements }
         // Its instant is above all that were popped before, and above the floor.

@@ -1,8 +1,8 @@
 //! How data is offered to the table of an alignment.
-ghost use Rattle.std.specs.Prelude.{◌≡◌, ◌≤◌, length};
+ghost use Rattle.std.specs.Prelude.{◌≡◌, ◌≤◌, length, option_map};
 ghost use Rattle.pdc_arrival.specs.pdc_block.Block.{words_in};
 ghost use Rattle.pdc_table.specs.Content.{IsPut};
-ghost use Rattle.pdc_table.specs.pdc_open_row.Parts.{cut_cells, parts_len};
+ghost use Rattle.pdc_table.specs.pdc_open_row.Parts.{cut_cells, laid_out, parts_len};
 ghost use Rattle.pdc_table.specs.pdc_open_row.Taking.{body_cells_of};
 ghost use Rattle.pdc_align.specs.Align.{Unchanged};
 ghost use Rattle.pdc_align.specs.Calls.{after_data, put_outcome};
@@ -10,7 +10,7 @@ ghost use Rattle.pdc_align.specs.Follows.{told_by};
 
 use crate::Alignment;
 use pdc_arrival::{Body, MAX_PMUS, Outcome, Refusal};
-use pdc_table::{Part, PutOutcome, Table};
+use pdc_table::{Part, PutOutcome, Shapes, Table};
 
 /// What a put into the table is answered, as a concentrator tells it.
 fn outcome_of(outcome: PutOutcome) -> Outcome
@@ -56,6 +56,7 @@ impl<T: Table> Alignment<T> {
         stream: usize,
         instant: u64,
         parts: &[P],
+        laid: Option<&Shapes>,
         bytes: &[u8],
         quality: u8,
     ) -> Outcome
@@ -63,6 +64,8 @@ impl<T: Table> Alignment<T> {
             (cut_cells P.column_of P.shape_of parts.now quality (words_in bytes.now)) }
         requires size { length bytes.now ≡ parts_len P.shape_of parts.now }
         requires few { length parts.now ≤ MAX_PMUS }
+        requires laid { option_map (λ shapes. shapes.now) laid ≡
+            laid_out P.column_of P.shape_of parts.now }
         ensures answer { result ≡ put_outcome self.old.state stream instant
             (cut_cells P.column_of P.shape_of parts.now quality (words_in bytes.now)) }
         ensures state { self.new.state ≡
@@ -76,6 +79,9 @@ impl<T: Table> Alignment<T> {
         if instant.saturating_sub(self.current) > self.ahead {
             return Outcome::Refused(Refusal::Ahead);
         }
-        outcome_of(self.table.put_parts(stream, instant, parts, bytes, quality))
+        outcome_of(
+            self.table
+                .put_parts(stream, instant, parts, laid, bytes, quality),
+        )
     }
 }

@@ -1,9 +1,9 @@
 //! The steps of a tick, each said of what the alignment keeps.
-ghost use Rattle.std.specs.Prelude.{◌≡◌, ◌<◌, ◌-◌, ◌^◌, ℕ, length};
+ghost use Rattle.std.specs.Prelude.{◌≡◌, ◌<◌, ◌-◌, ◌^◌, ℕ, None, length};
 ghost use Rattle.std.specs.List.{All, list_any};
 ghost use Rattle.pdc_table.specs.Steps as table;
 ghost use Rattle.pdc_align.specs.State.{rule_of};
-ghost use Rattle.pdc_align.specs.Align.{KeepsSizes, Unchanged, new_change};
+ghost use Rattle.pdc_align.specs.Align.{KeepsSizes, Unchanged, in_force_in, new_change};
 ghost use Rattle.pdc_align.specs.Calls.{after_adopting, after_closing, after_tick_of};
 ghost use Rattle.pdc_align.specs.Calls.{cleared_from, disagreements_at, is_ready_in};
 ghost use Rattle.pdc_align.specs.Calls.{row_layout_in, told_at};
@@ -11,7 +11,7 @@ ghost use Rattle.pdc_align.specs.Calls.{row_layout_in, told_at};
 use crate::adopting::adopt_in;
 use crate::{Alignment, Ticked, columns};
 use pdc_arrival::{MAX_PMUS, WaitKind};
-use pdc_table::{Table, WaitRule};
+use pdc_table::{RowLayout, Table, WaitRule};
 
 /// The rule that a tick hands to the table: the wait in ticks, or the instant that lies the wait below now.
 fn rule_of(kind: WaitKind, wait: u64, now: u64) -> WaitRule
@@ -32,6 +32,8 @@ impl<T: Table> Alignment<T> {
         // The wait is a number of 64 bits: here `tick` learns it.
         ensures wait { self.old.state.wait < 2 ^ 64 }
         ensures sizes { KeepsSizes self.old.state self.new.state }
+        ensures in_force { result.change ≡ None →
+            in_force_in self.new.state ≡ in_force_in self.old.state }
         ensures memory { self.new.memory ≡ self.old.memory }
         ensures disagreements { self.new.disagreements ≡
             disagreements_at self.old.disagreements self.old.state now }
@@ -70,6 +72,7 @@ impl<T: Table> Alignment<T> {
         ensures wait { self.old.state.wait < 2 ^ 64 }
         ensures state { self.new.state ≡ after_closing self.old.state now counts.now }
         ensures sizes { KeepsSizes self.old.state self.new.state }
+        ensures in_force { in_force_in self.new.state ≡ in_force_in self.old.state }
         ensures memory { self.new.memory ≡ self.old.memory }
         ensures disagreements { self.new.disagreements ≡
             disagreements_at self.old.disagreements self.old.state now }
@@ -91,6 +94,7 @@ impl<T: Table> Alignment<T> {
                   (row_layout_in self.old.state);
             } }
         ensures sizes { KeepsSizes self.old.state self.new.state }
+        ensures in_force { in_force_in self.new.state ≡ in_force_in self.old.state }
         ensures memory { self.new.memory ≡ self.old.memory }
         ensures disagreements { self.new.disagreements ≡
             table.disagreements_after self.old.disagreements self.old.state.content rule
@@ -124,16 +128,24 @@ impl<T: Table> Alignment<T> {
         requires exist { All (λ (column : ℕ). column < length self.old.state.columns) adopted.now }
         ensures answer { result ≡ new_change self.old.state.change adopted.now }
         ensures state { self.new.state ≡ after_adopting self.old.state adopted.now }
-        ensures unchanged { Unchanged self.old self.new }
+        ensures sizes { KeepsSizes self.old.state self.new.state }
+        ensures memory { self.new.memory ≡ self.old.memory }
+        ensures disagreements { self.new.disagreements ≡ self.old.disagreements }
+        ensures popped { self.new.popped ≡ self.old.popped }
     {
         columns::adopt(self.columns.as_mut_slice());
         adopt_in(&mut self.table, self.lanes, adopted);
-        self.layout.shapes = columns::shapes(self.columns.as_slice());
         self.is_quiet = false;
-        if adopted.is_empty() {
-            return None;
-        }
-        self.layout.change += 1;
-        Some(self.layout.change)
+        let change = if adopted.is_empty() {
+            None
+        } else {
+            Some(self.layout.change + 1)
+        };
+        self.layout = RowLayout::new(
+            self.layout.start,
+            change.unwrap_or(self.layout.change),
+            columns::shapes(self.columns.as_slice()),
+        );
+        change
     }
 }

@@ -1,3 +1,4 @@
+mod InForce
 mod Heard
 mod Placed
 mod ByLayout

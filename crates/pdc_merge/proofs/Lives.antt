@@ -16,9 +16,11 @@ use Rattle.pdc_align.specs.Align.{HasSizes, KeepsSizes, State}
 use Rattle.pdc_align.specs.Align as align
 use Rattle.pdc_arrival.specs.declared.counts.Counts.{Counts}
 use Rattle.pdc_arrival.specs.Counts.{counts_after}
+use Rattle.pdc_merge.specs.Cells.{layouts_in_force}
 use Rattle.pdc_merge.specs.Held.{AreAllInPlace, AreInPlace, LayoutView, LayoutsView, MayBeInPlace, held_section_of, layout_at, layout_of, layouts_of, with_layout}
 use Rattle.pdc_merge.specs.Merger.{IsPlaced, IsReady, IsWhole, MergerView, StandsFor}
 use Rattle.pdc_merge.specs.declared.held_layout.HeldSection.{HeldSection}
+use Rattle.pdc_merge.specs.declared.in_force.InForce.{InForce}
 
 abbrev Parts : Type 0
 Parts = List (ℕ × SectionFields)
@@ -41,22 +43,28 @@ begins settings start floor counts opening g a l k m d last e aligned held count
 pub same_place : (columns more : ℕ) (s : ℕ) (arrival : Arrival) → columns ≡ more → IsPlaced columns s arrival → IsPlaced more s arrival
 same_place columns more s arrival e h = subst (λ n. IsPlaced n s arrival) e h
 
-pub is_ready : (columns : ℕ) (a : State) (held : LayoutsView) → IsWhole columns a held → IsReady a held
-is_ready columns a held whole = record {
+pub is_ready : (columns : ℕ) (a : State) (held : LayoutsView) (k : InForce) → IsWhole columns a held k → IsReady a held
+is_ready columns a held k whole = record {
   each = whole.sizes.each_column ∙ sym whole.sizes.column_count;
   lanes = whole.sizes.lane_count;
   in_place = subst (λ n. AreAllInPlace n held) (sym whole.sizes.each_column) whole.in_place;
 }
 
-pub is_whole : (columns : ℕ) (a b : State) (old new : LayoutsView) → KeepsSizes a b → AreAllInPlace (length a.columns) new → IsWhole columns a old → IsWhole columns b new
-is_whole columns a b old new keeps place whole = record {
+pub is_whole : (columns : ℕ) (a b : State) (old new : LayoutsView) (k l : InForce) → KeepsSizes a b → AreAllInPlace (length a.columns) new → l ≡ layouts_in_force b new
+    → IsWhole columns a old k → IsWhole columns b new l
+is_whole columns a b old new k l keeps place known whole = record {
   sizes = record {
     column_count = keeps.columns ∙ whole.sizes.column_count;
     lane_count = keeps.lanes ∙ whole.sizes.lane_count;
     each_column = keeps.each ∙ whole.sizes.each_column;
   };
   in_place = subst (λ n. AreAllInPlace n new) whole.sizes.each_column place;
+  known = known;
 }
+
+-- there are such columns after a call that keeps the sizes
+pub still_placed : (columns : ℕ) (a b : State) (held : LayoutsView) (k : InForce) → KeepsSizes a b → IsWhole columns a held k → AreAllInPlace (length b.columns) held
+still_placed columns a b held k keeps whole = subst (λ n. AreAllInPlace n held) (sym (keeps.each ∙ whole.sizes.each_column)) whole.in_place
 
 -- ---- held layouts
 

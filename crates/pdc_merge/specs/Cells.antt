@@ -11,7 +11,8 @@ use Rattle.pdc_life.specs.declared.outcome.Refusal.TheVariants.{OtherStamp, Wron
 use Rattle.pdc_life.specs.Merger.{differs_from, own_words}
 use Rattle.pdc_align.specs.Align.{State}
 use Rattle.pdc_align.specs.Calls.{column_in}
-use Rattle.pdc_merge.specs.Held.{LayoutView}
+use Rattle.pdc_merge.specs.Held.{LayoutView, LayoutsView}
+use Rattle.pdc_merge.specs.declared.in_force.InForce.{InForce}
 use Rattle.pdc_merge.specs.declared.held_layout.HeldSection.{HeldSection}
 use Rattle.pdc_row.specs.declared.row_frame.TheConstants.{OWN_BLOCK_LEN}
 
@@ -28,6 +29,23 @@ cell_in in_force quality s words =
 -- the count of each section is in force
 abbrev pub are_in_force : State → List HeldSection → Bool
 are_in_force a sections = list_all (λ (s : HeldSection). has_count (column_in a s.column).in_force s.count) sections
+
+-- a layout is held, and the count of each of its sections is in force
+abbrev pub is_in_force : State → Option LayoutView → Bool
+is_in_force a None = false
+is_in_force a (Some layout) = are_in_force a layout.sections
+
+-- of which nodes it is so
+abbrev pub layouts_in_force : State → LayoutsView → InForce
+layouts_in_force a held = record { first = is_in_force a held.first; second = is_in_force a held.second }
+
+-- of none
+abbrev pub none_in_force : InForce
+none_in_force = record { first = false; second = false }
+
+-- whether it is so of the node of a stream
+abbrev pub is_at : InForce → (stream : ℕ) → Bool
+is_at in_force stream = if stream == 0 then in_force.first else in_force.second
 
 -- the cells of all sections, cut one after the other
 abbrev pub cells_in : State → (quality : ℕ) → List HeldSection → (words : List ℕ) → List (ℕ × CellView)

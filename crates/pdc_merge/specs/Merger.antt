@@ -13,7 +13,9 @@ use Rattle.pdc_align.specs.Align.{HasSizes, State}
 use Rattle.pdc_align.specs.Align as align
 use Rattle.pdc_arrival.specs.declared.counts.Counts.{Counts}
 use Rattle.pdc_arrival.specs.Counts.{counts_after}
+use Rattle.pdc_merge.specs.Cells.{layouts_in_force}
 use Rattle.pdc_merge.specs.Held.{AreAllInPlace, LayoutsView, layouts_of}
+use Rattle.pdc_merge.specs.declared.in_force.InForce.{InForce}
 
 pub record MergerView : Type 0 where
   -- what is fixed: the settings, and the number of the start
@@ -44,10 +46,11 @@ pub record IsReady (a : State) (held : LayoutsView) : Type 0 where
   pub lanes : a.content.lanes ≡ 2
   pub in_place : AreAllInPlace (length a.columns) held
 
--- What always holds of a merger, with so many columns.
-pub record IsWhole (columns : ℕ) (a : State) (held : LayoutsView) : Type 0 where
+-- What always holds of a merger, with so many columns, which knows of which nodes the held layout is in force.
+pub record IsWhole (columns : ℕ) (a : State) (held : LayoutsView) (in_force : InForce) : Type 0 where
   pub sizes : HasSizes columns 2 a
   pub in_place : AreAllInPlace columns held
+  pub known : in_force ≡ layouts_in_force a held
 
 -- What arrives from a node brings sections in rising columns, and there are such columns.
 pub record IsPlaced (columns stream : ℕ) (arrival : Arrival) : Type 0 where

@@ -13,13 +13,15 @@ ghost use Rattle.pdc_life.specs.Life.{Arrive, Entry};
 ghost use Rattle.pdc_life.specs.Merger.{merged_answer};
 ghost use Rattle.pdc_life.specs.Run.{IsRun};
 ghost use Rattle.pdc_arrival.specs.Views.{arrival_view, section_part, stamp_view};
-ghost use Rattle.pdc_merge.specs.Cells.{blocks_len, cells_in, conflicts_in, data_refusal};
+ghost use Rattle.pdc_merge.specs.Cells.{are_in_force, blocks_len, cells_in, conflicts_in};
+ghost use Rattle.pdc_merge.specs.Cells.{data_refusal, layouts_in_force};
 ghost use Rattle.pdc_merge.specs.Held.{AreAllInPlace, AreInPlace, LayoutView, layout_at};
 ghost use Rattle.pdc_merge.specs.Held.{layouts_of};
 ghost use Rattle.pdc_merge.specs.Merger.{IsPlaced, IsReady};
 
-use crate::cells::{are_in_force, write_cells};
+use crate::cells::write_cells;
 use crate::held_layout::HeldLayout;
+use crate::in_force::InForce;
 use crate::layouts::HeldLayouts;
 use pdc_align::{Alignment, columns_stand, others_are_left};
 use pdc_arrival::{
@@ -83,10 +85,11 @@ fn put_some<T: Table>(
     alignment.put(stream, instant, &cells[..count], quality)
 }
 
-/// Offers the cells of data that a layout reads.
+/// Offers the cells of data that a layout reads, of which it is known whether the count of each section is in force.
 fn put_data<T: Table>(
     alignment: &mut Alignment<T>,
     layout: &HeldLayout,
+    is_in_force: bool,
     stream: usize,
     instant: u64,
     quality: u8,
@@ -97,6 +100,7 @@ fn put_data<T: Table>(
     requires stream { stream < 2 }
     requires in_place { AreInPlace (length alignment.old.state.columns) layout.now.sections }
     requires size { length payload.now ≡ OWN_BLOCK_LEN + blocks_len layout.now.sections }
+    requires in_force { is_in_force ≡ are_in_force alignment.old.state layout.now.sections }
     ensures answer { (g : Given) (E : List Entry) → StandsFor g E alignment.old.state →
         result ≡ outcome_in_time g E stream instant
         (cells_in alignment.old.state quality layout.now.sections (drop 7 (words_in payload.now))) }
@@ -112,9 +116,15 @@ fn put_data<T: Table>(
 {
     words_are_cut();
     let blocks = &payload[OWN_BLOCK_LEN..];
-    let sections = layout.sections();
-    if are_in_force(alignment, sections) {
-        return alignment.put_parts(stream, instant, sections, blocks, quality);
+    if is_in_force {
+        return alignment.put_parts(
+            stream,
+            instant,
+            layout.sections(),
+            layout.laid(),
+            blocks,
+            quality,
+        );
     }
     put_some(alignment, layout, stream, instant, quality, payload)
 }
@@ -123,6 +133,7 @@ fn put_data<T: Table>(
 fn answer_under<T: Table>(
     alignment: &mut Alignment<T>,
     layout: &HeldLayout,
+    is_in_force: bool,
     stream: usize,
     instant: u64,
     quality: u8,
@@ -132,6 +143,7 @@ fn answer_under<T: Table>(
     requires lanes { alignment.old.state.content.lanes ≡ 2 }
     requires stream { stream < 2 }
     requires in_place { AreInPlace (length alignment.old.state.columns) layout.now.sections }
+    requires in_force { is_in_force ≡ are_in_force alignment.old.state layout.now.sections }
     ensures answer { (g : Given) (E : List Entry) → StandsFor g E alignment.old.state →
         Some layout.now ≡ layout_at (layouts_of E) stream →
         result ≡ (merged_answer g E stream (Data instant quality payload.now)).outcome }
@@ -147,7 +159,15 @@ fn answer_under<T: Table>(
     columns_stand();
     match data_refusal(layout, payload) {
         Some(refusal) => Outcome::Refused(refusal),
-        None => put_data(alignment, layout, stream, instant, quality, payload),
+        None => put_data(
+            alignment,
+            layout,
+            is_in_force,
+            stream,
+            instant,
+            quality,
+            payload,
+        ),
     }
 }
 
@@ -263,12 +283,14 @@ fn answer_configuration<T: Table>(
 pub fn answer_data<T: Table>(
     alignment: &mut Alignment<T>,
     layouts: &HeldLayouts,
+    in_force: InForce,
     stream: usize,
     instant: u64,
     quality: u8,
     payload: &[u8],
 ) -> Outcome
     requires ready { IsReady alignment.old.state layouts.now }
+    requires known { in_force ≡ layouts_in_force alignment.old.state layouts.now }
     requires stream { stream < 2 }
     ensures answer { (g : Given) (E : List Entry) → StandsFor g E alignment.old.state →
         layouts.now ≡ layouts_of E →
@@ -283,7 +305,15 @@ pub fn answer_data<T: Table>(
 {
     others_are_left();
     match layouts.of(stream) {
-        Some(layout) => answer_under(alignment, layout, stream, instant, quality, payload),
+        Some(layout) => answer_under(
+            alignment,
+            layout,
+            in_force.of(stream),
+            stream,
+            instant,
+            quality,
+            payload,
+        ),
         None => Outcome::Refused(Refusal::NoConfig),
     }
 }
@@ -292,10 +322,12 @@ pub fn answer_data<T: Table>(
 pub fn answer<T: Table>(
     alignment: &mut Alignment<T>,
     layouts: &mut HeldLayouts,
+    in_force: InForce,
     stream: usize,
     arrival: &Arrival<'_>,
 ) -> Outcome
     requires ready { IsReady alignment.old.state layouts.old }
+    requires known { in_force ≡ layouts_in_force alignment.old.state layouts.old }
     requires placed { IsPlaced (length alignment.old.state.columns) stream
         (arrival_view arrival.now) }
     ensures answer { (g : Given) (E : List Entry) → StandsFor g E alignment.old.state →
@@ -321,7 +353,9 @@ pub fn answer<T: Table>(
             instant,
             quality,
             payload,
-        } => answer_data(alignment, layouts, stream, *instant, *quality, payload),
+        } => answer_data(
+            alignment, layouts, in_force, stream, *instant, *quality, payload,
+        ),
         Arrival::Layout { stamp, sections } => {
             answer_configuration(alignment, layouts, stream, *stamp, sections)
         }

@@ -1,16 +1,18 @@
 //! The layout of a node, as far as its data is read by it.
-ghost use Rattle.std.specs.Prelude.{◌≡◌, ◌≤◌, length, map};
+ghost use Rattle.std.specs.Prelude.{◌≡◌, ◌≤◌, length, map, option_map};
 ghost use Rattle.pdc_life.specs.pdc_row.declared.limits.TheConstants.{MAX_PMUS};
 ghost use Rattle.pdc_arrival.specs.Views.{section_part, stamp_view};
 ghost use Rattle.pdc_arrival.specs.declared.arrival.ColumnSection.{ColumnSection as ColumnSectionData};
 ghost use Rattle.pdc_merge.specs.Cells.{blocks_len};
 ghost use Rattle.pdc_merge.specs.Held.{held_section_of};
+ghost use Rattle.pdc_merge.specs.declared.held_layout.HeldSection.{HeldSection as HeldSectionData};
+ghost use Rattle.pdc_table.specs.pdc_open_row.Parts.{laid_out};
 
 use arrayvec::ArrayVec;
 use pdc_arrival::{ColumnSection, Stamp};
 use pdc_cfg::Shape;
 use pdc_life::MAX_PMUS;
-use pdc_table::Part;
+use pdc_table::{Part, Shapes, laid_out};
 use std::marker::Model;
 
 /// What is kept of a section: where the words of its block go.
@@ -47,6 +49,8 @@ pub struct HeldLayout {
     /// The bytes of the blocks of its sections, which each frame of data is to have.
     len: usize,
     sections: ArrayVec<HeldSection, MAX_PMUS>,
+    /// The shapes of its sections, where they are of all columns up to one, in their order.
+    laid: Option<Shapes>,
 }
 
 impl Model for HeldLayout {
@@ -54,12 +58,18 @@ impl Model for HeldLayout {
     ghost use Rattle.pdc_arrival.specs.Views.{stamp_view};
     ghost use Rattle.pdc_merge.specs.Cells.{blocks_len};
     ghost use Rattle.pdc_merge.specs.Held.{LayoutView};
+    ghost use Rattle.pdc_merge.specs.declared.held_layout.HeldSection.{HeldSection as HeldSectionData};
+    ghost use Rattle.pdc_table.specs.pdc_open_row.Parts.{laid_out};
 
     ghost Value = { LayoutView };
 
     ghost view = { λ l. record { stamp = stamp_view l.stamp; sections = l.sections.items } };
 
-    ghost invariant = { λ l. l.len ≡ blocks_len l.sections.items };
+    ghost invariant = { λ l. record {
+      long : l.len ≡ blocks_len l.sections.items;
+      told : l.laid ≡ laid_out (λ (s : HeldSectionData). s.column)
+          (λ (s : HeldSectionData). s.shape) l.sections.items;
+    } };
 }
 
 impl HeldLayout {
@@ -76,6 +86,7 @@ impl HeldLayout {
         HeldLayout {
             stamp,
             len: len_of(sections.as_slice()),
+            laid: laid_out(sections.as_slice()),
             sections,
         }
     }
@@ -95,6 +106,15 @@ impl HeldLayout {
         self.sections.as_slice()
     }
 
+    /// The shapes of its sections, where they are of all columns up to one, in their order.
+    pub(crate) fn laid(&self) -> Option<&Shapes>
+        ensures { option_map (λ shapes. shapes.now) result ≡ laid_out
+            (λ (s : HeldSectionData). s.column) (λ (s : HeldSectionData). s.shape)
+            self.now.sections }
+    {
+        self.laid.as_ref()
+    }
+
     /// A copy, which takes no memory.
     pub(crate) fn copy(&self) -> HeldLayout
         ensures { result ≡ self.now }
@@ -106,6 +126,10 @@ impl HeldLayout {
         HeldLayout {
             stamp: self.stamp,
             len: self.len,
+            laid: match &self.laid {
+                Some(laid) => Some(laid.copy()),
+                None => None,
+            },
             sections,
         }
     }

@@ -11,6 +11,7 @@
 mod answering;
 mod cells;
 mod held_layout;
+mod in_force;
 mod layouts;
 mod merger;
 mod opens;

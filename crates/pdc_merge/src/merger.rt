@@ -14,6 +14,7 @@ ghost use Rattle.pdc_life.specs.Merger.{merged_answer};
 ghost use Rattle.pdc_merge.specs.Merger.{StandsFor};
 
 use crate::answering;
+use crate::in_force::{InForce, layouts_in_force};
 use crate::layouts::HeldLayouts;
 use crate::opens::copy_of_merger;
 use pdc_align::{Alignment, Plan, Ticked, append_layout_frame, others_are_left};
@@ -35,6 +36,8 @@ pub struct Merger<T: Table> {
     start: u32,
     alignment: Alignment<T>,
     layouts: HeldLayouts,
+    /// Of which nodes the held layout is in force: told anew where a configuration comes or a tick adopts.
+    in_force: InForce,
     counts: Counts,
 }
 
@@ -55,7 +58,8 @@ impl<T: Table> Model for Merger<T> {
       disagreements = m.alignment.disagreements;
     } };
 
-    ghost invariant = { λ m. IsWhole (length m.settings.sources.items) m.alignment.state m.layouts };
+    ghost invariant = { λ m. IsWhole (length m.settings.sources.items) m.alignment.state m.layouts
+        m.in_force };
 }
 
 /// How the instants of the merger are aligned: each node has a stream, which brings cells for all columns.
@@ -104,6 +108,7 @@ impl<T: Table> Merger<T> {
             start,
             alignment,
             layouts: HeldLayouts::new(),
+            in_force: InForce::none(),
             counts: Counts::new(),
         })
     }
@@ -127,6 +132,7 @@ impl<T: Table> Merger<T> {
         let outcome = answering::answer_data(
             &mut self.alignment,
             &self.layouts,
+            self.in_force,
             stream,
             instant,
             quality,
@@ -207,7 +213,14 @@ impl<T: Table> Core for Merger<T> {
 
     fn arrive(&mut self, stream: usize, arrival: &Arrival<'_>) -> Outcome {
         lives_are_runs();
-        let outcome = answering::answer(&mut self.alignment, &mut self.layouts, stream, arrival);
+        let outcome = answering::answer(
+            &mut self.alignment,
+            &mut self.layouts,
+            self.in_force,
+            stream,
+            arrival,
+        );
+        self.in_force = layouts_in_force(&self.alignment, &self.layouts);
         self.counts.count(outcome);
         outcome
     }
@@ -244,7 +257,11 @@ impl<T: Table> Core for Merger<T> {
 
     /// A tick. Rows close under the layout before it, and then what is held comes into force.
     fn tick(&mut self, now: u64, counts: &[u16; MAX_PMUS]) -> Ticked {
-        self.alignment.tick(now, counts)
+        let ticked = self.alignment.tick(now, counts);
+        if ticked.change.is_some() {
+            self.in_force = layouts_in_force(&self.alignment, &self.layouts);
+        }
+        ticked
     }
 
     fn pop_due(&mut self) -> Option<DueRow> {
@@ -287,6 +304,7 @@ impl<T: Table> Core for Merger<T> {
         self.start = other.start;
         self.alignment.copy_from(&other.alignment);
         self.layouts = other.layouts.copy();
+        self.in_force = other.in_force;
         self.counts = other.counts;
     }
 

@@ -2,8 +2,7 @@
 use Rattle.std.proofs.Common.{◌≡◌, ◌∙◌, Bool, true, false, ap, cond, refl, sym}
 use Rattle.pdc_row.proofs.SameBlocks.{block_is}
 use Rattle.pdc_row.specs.CellView.{BlockView, same_block}
-use Rattle.pdc_open_row.specs.OpenRowParts.{block_of_second, column_of}
-use Rattle.pdc_open_row.specs.Views.{kept}
+use Rattle.pdc_open_row.specs.OpenRowParts.{block_of_second}
 use Rattle.pdc_open_row.specs.declared.column.Held.{Held}
 
 stays_where : (is_same : Bool) (own first : BlockView) → (is_same ≡ true → own ≡ first) → cond is_same first own ≡ own

@@ -1,9 +1,9 @@
 -- What is held of all columns, written once.
-use Rattle.std.proofs.Common.{◌≡◌, ◌∙◌, ◌+◌, ◌<◌, ℕ, Bool, true, false, List, [], ◌∷◌, ap, append-nil, arith, cond, drop, length, map, refl, replicate, set, suc, sym, take, zero}
+use Rattle.std.proofs.Common.{◌≡◌, ◌∙◌, ℕ, Bool, true, false, List, ◌∷◌, ap, append-nil, arith, cond, length, map, refl, replicate, suc, sym, zero}
 use Rattle.std.specs.List.{refill}
 use Rattle.std.proofs.lemmas.Bool.{false≢true}
 use Rattle.std.proofs.Common.{true≢false}
-use Rattle.std.proofs.lemmas.List.{drop_all, length-replicate, length-set, take_all}
+use Rattle.std.proofs.lemmas.List.{drop_all, length-replicate, take_all}
 use Rattle.pdc_open_row.specs.declared.column.Held.{Held}
 
 -- what is seen of it, where it is written once, and where it is not

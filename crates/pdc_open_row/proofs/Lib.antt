@@ -1,3 +1,4 @@
+mod AbsentBytes
 pub mod Alike
 pub mod Blank
 pub mod CutParts

@@ -1,6 +1,5 @@
 -- The columns of an open row whose flags and cells stand in lists of their own.
-use Rattle.std.proofs.Common.{◌≡◌, true≢false, not, nat_eq, ℕ, ◌+◌, ◌<◌, ◌≤◌, Bool, true, false, cond, drop, eqb, take, ◌||◌, List, [], ◌∷◌, length, get_or, set, replicate, map, None, Some, Option, append-nil, ap, subst, sym, refl, ◌∙◌, arith, zero, suc}
-use Rattle.std.specs.List.{refill}
+use Rattle.std.proofs.Common.{◌≡◌, true≢false, not, nat_eq, ℕ, ◌<◌, ◌≤◌, Bool, true, false, cond, eqb, ◌||◌, List, [], ◌∷◌, length, get_or, set, replicate, map, None, Some, Option, ap, sym, refl, ◌∙◌, arith, zero, suc}
 use Rattle.std.specs.Prelude.{is_some}
 use Rattle.std.specs.Cmp.Lexicographic.{pointwise}
 use Rattle.std.proofs.lemmas.Bool.{eq-eqb, or_parts}
@@ -259,6 +258,20 @@ laid_out_again columns hs h fs ss gs ts seen one e k a b c d =
     ∙ sym (nothing_shown (length hs) h fs ss e k a b)
     ∙ ap (λ (xs : List Held). columns_of xs fs ss) (sym one)
     ∙ seen
+
+-- a column that holds nothing shows none of its blocks
+shows_nothing : (h : Held) (f s : BlockView) → h.first ≡ false → h.second ≡ false → column_of h f s ≡ empty_column
+shows_nothing h f s e k =
+    ap {B = ColumnView} (λ x. record { first = kept x (record { block = f; quality = h.first_quality }); second = kept h.second (record { block = block_of_second h f s; quality = h.second_quality }) }) e
+    ∙ ap {B = ColumnView} (λ x. record { first = None; second = kept x (record { block = block_of_second h f s; quality = h.second_quality }) }) k
+
+pub laid_empty : (hs : List Held) (fs ss : List BlockView) (i : ℕ) (b : BlockView) → (get_or hs i nothing).first ≡ false → (get_or hs i nothing).second ≡ false → columns_of hs (set fs i b) ss ≡ columns_of hs fs ss
+laid_empty [] fs ss i b e k = refl
+laid_empty (h ∷ hs) [] ss i b e k = refl
+laid_empty (h ∷ hs) (f ∷ fs) [] zero b e k = refl
+laid_empty (h ∷ hs) (f ∷ fs) [] (suc i) b e k = refl
+laid_empty (h ∷ hs) (f ∷ fs) (s ∷ ss) zero b e k = ap (λ c. c ∷ columns_of hs fs ss) (shows_nothing h b s e k ∙ sym (shows_nothing h f s e k))
+laid_empty (h ∷ hs) (f ∷ fs) (s ∷ ss) (suc i) b e k = ap (λ cs. column_of h f s ∷ cs) (laid_empty hs fs ss i b e k)
 
 -- what stands at a place is put there again
 pub put_again : {X : Type 0} → (xs : List X) (i : ℕ) (d : X) → i < length xs → xs ≡ set xs i (get_or xs i d)

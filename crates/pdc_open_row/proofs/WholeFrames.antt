@@ -1,5 +1,5 @@
 -- A frame whose blocks are one for each column, in their order: it is put as a whole.
-use Rattle.std.proofs.Common.{◌≡◌, ◌∙◌, ◌*◌, ◌+◌, ◌<◌, ◌≤◌, ◌&&◌, ℕ, Bool, true, false, not, List, [], ◌∷◌, ◌++◌, None, Some, ap, append_assoc, arith, cond, drop, eqb, get_or, length, map, nat_eq, refl, replicate, set, suc, sym, take, zero}
+use Rattle.std.proofs.Common.{◌≡◌, ◌∙◌, ◌*◌, ◌≤◌, ◌&&◌, ℕ, Bool, true, false, not, List, [], ◌∷◌, ◌++◌, Some, ap, append_assoc, arith, drop, eqb, get_or, length, nat_eq, refl, replicate, set, suc, sym, take, zero}
 use Rattle.std.proofs.lemmas.Bool.{and_parts, eqb-true, false≢true}
 use Rattle.std.proofs.lemmas.List.{length-map, length-replicate}
 use Rattle.std.proofs.lemmas.List.Sums.{sum_by-cons}

@@ -1,5 +1,5 @@
 -- Blocks that lie one after the other in the bytes of a payload.
-use Rattle.std.specs.Prelude.{ℕ, suc, ◌*◌, ◌==◌, Bool, ◌&&◌, true, false, List, [], ◌∷◌, drop, sum_by, take}
+use Rattle.std.specs.Prelude.{ℕ, suc, ◌*◌, ◌==◌, Bool, ◌&&◌, true, false, if◌then◌else◌, List, [], ◌∷◌, drop, map, sum_by, take, Option, None, Some}
 use Rattle.pdc_row.specs.pdc_cfg.Shape.{word_count_of}
 use Rattle.pdc_row.specs.pdc_cfg.declared.shape.Shape.{Shape}
 use Rattle.pdc_row.specs.CellView.{CellView, same_shape}
@@ -22,3 +22,7 @@ are_laid_out column shape [] (s ∷ shapes) place = false
 are_laid_out column shape (p ∷ parts) [] place = false
 are_laid_out column shape (p ∷ parts) (s ∷ shapes) place =
     (column p == place) && same_shape (shape p) s && are_laid_out column shape parts shapes (suc place)
+
+-- the shapes of parts that are one for each column from the first one on, in their order
+abbrev pub laid_out : {P : Type 0} → (column : P → ℕ) (shape : P → Shape) → List P → Option (List Shape)
+laid_out column shape parts = if are_laid_out column shape parts (map shape parts) 0 then Some (map shape parts) else None

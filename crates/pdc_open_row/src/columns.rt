@@ -1,37 +1,32 @@
-//! The columns of a row: which lanes of each hold a cell, and the blocks of each lane.
-ghost use Rattle.std.specs.Prelude.{◌≡◌, ℕ, ◌<◌, ◌≤◌, ◌+◌, ◌∷◌, [], IfSome, List, None, Option, Some, length};
+//! The columns of a row: which lanes of each hold a cell, and the blocks of each lane. What is done with whole frames and whole rows
+//! stands in `whole.rt`.
+ghost use Rattle.std.specs.Prelude.{◌≡◌, ℕ, ◌<◌, ◌≤◌, ◌∷◌, [], List, None, Option, Some, length};
 ghost use Rattle.std.specs.Prelude.{map};
 ghost use Rattle.std.specs.Prelude.{option_map, replicate, false, true, slice_index_or};
 ghost use Rattle.std.specs.Prelude.{slice_set};
 ghost use Rattle.std.specs.List.{All};
-ghost use Rattle.pdc_row.specs.pdc_block.Block.{words_in};
 ghost use Rattle.pdc_row.specs.pdc_cfg.declared.shape.Shape.{Shape as ShapeData};
 ghost use Rattle.pdc_open_row.specs.Chosen.{chosen_of, disagreement_at, disagreements_of};
-ghost use Rattle.pdc_open_row.specs.Parts.{are_laid_out, cut_cells, parts_len};
 ghost use Rattle.pdc_open_row.specs.Taking.{any_second, cell_in, cells_in, conflicts};
 ghost use Rattle.pdc_open_row.specs.Taking.{holds_other, with_cell, with_cells};
-ghost use Rattle.pdc_open_row.specs.OpenRowParts.{chosen_view, worst_kept};
-ghost use Rattle.pdc_row.specs.Quality.{quality_of, worst_of};
-ghost use Rattle.pdc_open_row.specs.Row.{blocks_of, qualities_of};
+ghost use Rattle.pdc_open_row.specs.OpenRowParts.{chosen_view};
 ghost use Rattle.pdc_open_row.specs.Views.{empty_column};
 
+use crate::MAX_COLUMNS;
 use crate::column::{Chosen, Held, NOTHING};
 use crate::lanes::Lanes;
-use crate::parts::Part;
-use crate::row_blocks::{are_shapes, give_over, worst_of_one};
-use crate::{MAX_COLUMNS, WORST_QUALITY};
-use pdc_row::{CopyFrom, Offered, RowBlocks, Shape, words_are_cut};
+use pdc_row::{CopyFrom, Offered, RowBlocks, Shape};
 use std::marker::Model;
 
 /// The columns of a row.
 #[derive(Drop)]
 pub struct Columns {
     /// Which lanes of each column hold a cell: all that a row that begins writes, and all that most looks at it read.
-    held: Lanes,
+    pub(crate) held: Lanes,
     /// The blocks of lane 0, each at its column, where they are held: one after the other, as the frame that goes out has them.
-    first: RowBlocks,
+    pub(crate) first: RowBlocks,
     /// The blocks of lane 1, where they are held and do not stand in lane 0.
-    second: RowBlocks,
+    pub(crate) second: RowBlocks,
 }
 
 impl Model for Columns {
@@ -59,20 +54,6 @@ fn blank_blocks(count: usize) -> RowBlocks
         blocks.push_absent(Shape::default());
     }
     blocks
-}
-
-/// Whether these parts are one for each column, in their order, each of the shape that its column has here.
-fn are_laid_out<P: Part>(parts: &[P], shapes: &[Shape], column: usize) -> bool
-    requires { column + length shapes.now ≤ MAX_COLUMNS }
-    ensures { result ≡ are_laid_out P.column_of P.shape_of parts.now shapes.now column }
-{
-    let Some((part, parts)) = parts.split_first() else {
-        return shapes.is_empty();
-    };
-    let Some((shape, shapes)) = shapes.split_first() else {
-        return false;
-    };
-    part.column() == column && part.shape() == *shape && are_laid_out(parts, shapes, column + 1)
 }
 
 impl Columns {
@@ -219,99 +200,6 @@ impl Columns {
         }
     }
 
-    /// Puts the blocks of a whole frame, one for each column as they are laid out here, into this lane: by one copy, or by none where they are
-    /// those of the other lane. Whether it did; else nothing is put.
-    pub(crate) fn put_whole<P: Part>(
-        &mut self,
-        lane: usize,
-        parts: &[P],
-        bytes: &[u8],
-        quality: u8,
-    ) -> bool
-        requires { length bytes.now ≡ parts_len P.shape_of parts.now }
-        ensures whole { result ≡ true → self.new ≡ with_cells lane (cut_cells P.column_of P.shape_of
-            parts.now quality (words_in bytes.now)) self.old }
-        ensures none { result ≡ false → self.new ≡ self.old }
-    {
-        if lane == 0 {
-            self.put_whole_first(parts, bytes, quality)
-        } else {
-            self.put_whole_second(lane, parts, bytes, quality)
-        }
-    }
-
-    /// The same into lane 0.
-    #[inline(always)]
-    fn put_whole_first<P: Part>(&mut self, parts: &[P], bytes: &[u8], quality: u8) -> bool
-        requires { length bytes.now ≡ parts_len P.shape_of parts.now }
-        ensures whole { result ≡ true → self.new ≡ with_cells 0 (cut_cells P.column_of P.shape_of
-            parts.now quality (words_in bytes.now)) self.old }
-        ensures none { result ≡ false → self.new ≡ self.old }
-    {
-        words_are_cut();
-        let Some(mut held) = self.held.one() else {
-            return false;
-        };
-        if parts.len() != self.held.len() || !are_laid_out(parts, self.first.shapes(), 0) {
-            return false;
-        }
-        held.first = true;
-        held.first_quality = quality;
-        if !held.second {
-            self.first.write_over(bytes);
-            self.held.fill(held);
-            return true;
-        }
-        if held.alike || !are_laid_out(parts, self.second.shapes(), 0) {
-            return false;
-        }
-        if !self.second.has_bytes(bytes) {
-            return false;
-        }
-        held.alike = true;
-        self.first.write_over(bytes);
-        self.held.fill(held);
-        true
-    }
-
-    /// The same into lane 1: what lane 0 has is not written again.
-    #[inline(always)]
-    fn put_whole_second<P: Part>(
-        &mut self,
-        lane: usize,
-        parts: &[P],
-        bytes: &[u8],
-        quality: u8,
-    ) -> bool
-        requires lane { 0 < lane }
-        requires size { length bytes.now ≡ parts_len P.shape_of parts.now }
-        ensures whole { result ≡ true → self.new ≡ with_cells lane (cut_cells P.column_of P.shape_of
-            parts.now quality (words_in bytes.now)) self.old }
-        ensures none { result ≡ false → self.new ≡ self.old }
-    {
-        words_are_cut();
-        let Some(mut held) = self.held.one() else {
-            return false;
-        };
-        if parts.len() != self.held.len() {
-            return false;
-        }
-        held.second = true;
-        held.second_quality = quality;
-        if are_laid_out(parts, self.first.shapes(), 0) && self.first.has_bytes(bytes) {
-            held.alike = true;
-            self.held.fill(held);
-            return true;
-        }
-        if !are_laid_out(parts, self.second.shapes(), 0) {
-            return false;
-        }
-        held.alike = false;
-        self.second.write_over(bytes);
-        self.held.fill(held);
-        true
-    }
-
     /// Whether some of these blocks differs from what this lane of its column holds.
     pub(crate) fn any_other<B: Offered>(&self, lane: usize, cells: &[(usize, B)]) -> bool
         requires { All (λ (cell : ℕ × B). cell.0 < length self.now) cells.now }
@@ -375,25 +263,6 @@ impl Columns {
         } else {
             None
         }
-    }
-
-    /// Makes these the blocks that the columns give, where all columns have shapes and lane 0 is laid out in them: by one copy, over which the
-    /// others are written. It answers the number above the worst quality.
-    pub(crate) fn give_whole(&self, shapes: &[Option<Shape>], blocks: &mut RowBlocks) -> Option<u32>
-        ensures blocks { IfSome result (λ _. blocks.new ≡ blocks_of shapes.now self.now) }
-        ensures quality { IfSome result (λ above. worst_of (worst_kept above) [] ≡
-            quality_of (qualities_of shapes.now self.now)) }
-        ensures fits { IfSome result (λ above. above ≤ WORST_QUALITY + 1) }
-        ensures few { IfSome result (λ _. length blocks.new ≤ MAX_COLUMNS) }
-    {
-        if shapes.len() != self.held.len() || !are_shapes(shapes, self.first.shapes()) {
-            return None;
-        }
-        blocks.copy_from(&self.first);
-        Some(match self.held.one() {
-            Some(held) if held.gives_first() => worst_of_one(held, &self.first),
-            _ => give_over(&self.held, &self.first, &self.second, blocks),
-        })
     }
 }
 

@@ -7,10 +7,12 @@
 //! required stream was taken or the wait is over, and that it closes to the block of the lowest lane that is present.
 #![tactic(auto)]
 
+mod absent;
 mod blocks;
 mod column;
 mod columns;
 mod items;
+mod laid;
 mod lanes;
 mod limits;
 mod open_row;
@@ -20,18 +22,19 @@ mod row_blocks;
 mod row_layout;
 mod streams;
 mod wait_rule;
+mod whole;
 
 pub use blocks::{Blocks, Listed};
 pub use items::copy_items;
 pub use limits::{MAX_COLUMNS, MAX_LANES};
 pub use open_row::{OpenRow, Places};
 pub use outcome::PutOutcome;
-pub use parts::{Cut, Part, Room, cut_bodies, new_room};
+pub use parts::{Cut, Part};
 pub use pdc_row::{
-    Block, Body, CopyFrom, DueRow, MAX_WINDOW, MIN_WINDOW, RowBlocks, copy_block, copy_each,
-    numbers_rise,
+    Block, Body, CopyFrom, DueRow, MAX_WINDOW, MIN_WINDOW, RowBlocks, Shape, Shapes, copy_block,
+    copy_each, numbers_rise, words_are_cut,
 };
 pub use row_blocks::WORST_QUALITY;
 pub use row_layout::RowLayout;
-pub use streams::{falses, lane_of, stream_count};
+pub use streams::falses;
 pub use wait_rule::WaitRule;

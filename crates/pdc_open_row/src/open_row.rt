@@ -227,7 +227,10 @@ impl OpenRow {
         ensures { row_view result ≡ row_of (layout_view layout.now) self.now }
     {
         let mut blocks = RowBlocks::new();
-        let quality = self.fill(layout, &mut blocks);
+        let quality = match self.columns.give_whole(layout, &mut blocks) {
+            Some(above) => quality_below(above),
+            None => self.fill_each(layout.shapes.as_slice(), &mut blocks),
+        };
         DueRow {
             instant: self.instant,
             start: layout.start,
@@ -237,14 +240,23 @@ impl OpenRow {
         }
     }
 
-    /// Writes the row that it closes to over this one.
-    pub fn close_into(&self, layout: &RowLayout, row: &mut DueRow)
-        ensures { row_view row.new ≡ row_of (layout_view layout.now) self.now }
+    /// Writes the row that it closes to over this one. It shows what it showed; where it is to be written block after block, columns that hold
+    /// nothing are laid out as the layout has them, for the next row at this place.
+    pub fn close_into(&mut self, layout: &RowLayout, row: &mut DueRow)
+        ensures row { row_view row.new ≡ row_of (layout_view layout.now) self.old }
+        ensures same { self.new ≡ self.old }
     {
         row.instant = self.instant;
         row.start = layout.start;
         row.change = layout.change;
-        row.quality = self.fill(layout, &mut row.blocks);
+        row.quality = match self.columns.give_whole(layout, &mut row.blocks) {
+            Some(above) => quality_below(above),
+            None => {
+                let quality = self.fill_each(layout.shapes.as_slice(), &mut row.blocks);
+                self.columns.lay_out_in(layout);
+                quality
+            }
+        };
     }
 
     /// Appends the block of the column at this place, if it has a shape. It answers the number above the worst quality so far.
@@ -275,21 +287,7 @@ impl OpenRow {
         }
     }
 
-    /// Makes these the blocks of the row that it closes to, and answers its quality.
-    pub fn fill(&self, layout: &RowLayout, blocks: &mut RowBlocks) -> u8
-        ensures blocks { blocks.new ≡ (row_of (layout_view layout.now) self.now).blocks }
-        ensures quality { result ≡ (row_of (layout_view layout.now) self.now).quality }
-        ensures fits { result ≤ WORST_QUALITY }
-        ensures few { length blocks.new ≤ MAX_COLUMNS }
-    {
-        let shapes = layout.shapes.as_slice();
-        if let Some(above) = self.columns.give_whole(shapes, blocks) {
-            return quality_below(above);
-        }
-        self.fill_each(shapes, blocks)
-    }
-
-    /// The same, block after block. A call of its own, since it is seldom.
+    /// Makes these the blocks of the row that it closes to, block after block, and answers its quality. A call of its own, since it is seldom.
     #[inline(never)]
     fn fill_each(&self, shapes: &[Option<Shape>], blocks: &mut RowBlocks) -> u8
         requires { length shapes.now ≤ MAX_COLUMNS }

@@ -1,16 +1,17 @@
 //! Blocks that lie one after the other in a payload, each with its column.
-ghost use Rattle.std.specs.Prelude.{◌≡◌, ◌<◌, ◌≤◌, ◌*◌, ◌+◌, ◌++◌, ℕ, false, length, take, true};
+ghost use Rattle.std.specs.Prelude.{◌≡◌, ◌<◌, ◌≤◌, ◌*◌, ◌+◌, ◌++◌, ℕ, false, length, option_map};
+ghost use Rattle.std.specs.Prelude.{take, true};
 ghost use Rattle.std.specs.List.{AllByRecursion};
 ghost use Rattle.pdc_row.specs.CellView.{CellView};
 ghost use Rattle.pdc_row.specs.pdc_block.Block.{words_in};
 ghost use Rattle.pdc_row.specs.pdc_cfg.declared.shape.Shape.{Shape as ShapeData};
-ghost use Rattle.pdc_open_row.specs.Parts.{cut_cells, parts_len};
+ghost use Rattle.pdc_open_row.specs.Parts.{cut_cells, laid_out, parts_len};
 ghost use Rattle.pdc_open_row.specs.Taking.{any_second, body_cells_of, conflicts, with_cells};
 
 use crate::MAX_COLUMNS;
 use crate::blocks::Blocks;
 use crate::columns::Columns;
-use pdc_row::{Body, Shape, words_are_cut};
+use pdc_row::{Body, Shape, Shapes, words_are_cut};
 
 /// What a block of a payload is: its column, and its shape.
 pub trait Part {
@@ -32,8 +33,12 @@ pub trait Part {
 pub struct Cut<'a, P: Part> {
     /// What each block is.
     pub parts: &'a [P],
+    /// The shapes in which they are laid out, one for each column, if they are.
+    pub laid: Option<&'a Shapes>,
     /// The words of all, each with its high byte first.
     pub bytes: &'a [u8],
+    pub ghost told: { option_map (λ shapes. shapes.now) laid ≡
+        laid_out P.column_of P.shape_of parts.now },
     pub ghost whole: { length bytes.now ≡ parts_len P.shape_of parts.now },
 }
 
@@ -43,7 +48,7 @@ impl<P: Part> Blocks for Cut<'_, P> {
 
     /// Where they are laid out as the columns have them, they are put as a whole.
     fn put(&self, columns: &mut Columns, lane: usize, quality: u8, is_alone: bool) {
-        if !columns.put_whole(lane, self.parts, self.bytes, quality) {
+        if !columns.put_whole(lane, self.parts, self.laid, self.bytes, quality) {
             put_parts(self.parts, self.bytes, columns, lane, quality, is_alone);
         }
     }
@@ -104,49 +109,4 @@ fn any_other_part<P: Part>(
     let block = Body { shape, bytes };
     columns.holds_other(part.column(), lane, &block)
         || any_other_part(later, others, columns, lane, quality)
-}
-
-/// Room for the blocks of a frame, each lent from the payload, with its column.
-pub type Room<'a> = [(usize, Body<'a>); MAX_COLUMNS];
-
-/// Room in which no block was written yet.
-pub fn new_room<'a>() -> Room<'a>
-    ensures { length result ≡ MAX_COLUMNS }
-{
-    let blank = Body {
-        shape: Shape::default(),
-        bytes: &[0; 6],
-    };
-    [(0, blank); MAX_COLUMNS]
-}
-
-/// Writes the blocks, which lie in these bytes, behind so many that are there, and answers how many there are then.
-pub fn cut_bodies<'a, P: Part>(
-    parts: &[P],
-    bytes: &'a [u8],
-    bodies: &mut [(usize, Body<'a>)],
-    count: usize,
-) -> usize
-    requires room { count + length parts.now ≤ length bodies.old }
-    requires size { length bytes.now ≡ parts_len P.shape_of parts.now }
-    ensures cells { (quality : ℕ) → body_cells_of (take result bodies.new) quality
-        ≡ body_cells_of (take count bodies.old) quality ++
-        cut_cells P.column_of P.shape_of parts.now quality (words_in bytes.now) }
-    ensures len { length bodies.new ≡ length bodies.old }
-    ensures grown { result ≤ length bodies.old }
-{
-    words_are_cut();
-    let Some((part, later)) = parts.split_first() else {
-        return count;
-    };
-    let shape = part.shape();
-    let (block, others) = bytes.split_at(2 * shape.word_count());
-    bodies[count] = (
-        part.column(),
-        Body {
-            shape,
-            bytes: block,
-        },
-    );
-    cut_bodies(later, others, bodies, count + 1)
 }

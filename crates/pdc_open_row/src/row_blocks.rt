@@ -12,6 +12,7 @@ ghost use Rattle.pdc_open_row.specs.OpenRowParts.{chosen_view, column_of, column
 ghost use Rattle.pdc_open_row.specs.Row.{blocks_of, qualities_of};
 
 use crate::MAX_COLUMNS;
+use crate::absent::put_absent;
 use crate::column::{Chosen, Held};
 use crate::lanes::Lanes;
 use pdc_row::{RowBlocks, Shape};
@@ -54,22 +55,6 @@ pub fn quality_below(above: u32) -> u8
         WORST_QUALITY
     } else {
         (above - 1) as u8
-    }
-}
-
-/// Whether each of these is a shape, and they are those of the blocks.
-pub fn are_shapes(wanted: &[Option<Shape>], shapes: &[Shape]) -> bool
-    ensures { result ≡ true → wanted.now ≡ map Some shapes.now }
-{
-    let Some((wanted, later)) = wanted.split_first() else {
-        return shapes.is_empty();
-    };
-    let Some((shape, shapes)) = shapes.split_first() else {
-        return false;
-    };
-    match wanted {
-        Some(wanted) => *wanted == *shape && are_shapes(later, shapes),
-        None => false,
     }
 }
 
@@ -182,7 +167,7 @@ fn give_one_over(
             worse(above, chosen.quality % 16)
         }
         None => {
-            blocks.put_absent(place, shape);
+            put_absent(blocks, place, shape);
             above
         }
     }

@@ -21,6 +21,7 @@ mod present;
 mod row_blocks;
 mod row_frame;
 mod section;
+mod shapes;
 mod stamp;
 
 pub use block_copy::copy_block;
@@ -43,3 +44,4 @@ pub use present::is_present;
 pub use row_blocks::{MAX_BLOCKS_LEN, MAX_CUT, RowBlocks};
 pub use row_frame::{MAX_ROW_LEN, OWN_BLOCK_LEN, append_row, write_row};
 pub use section::own_section;
+pub use shapes::Shapes;

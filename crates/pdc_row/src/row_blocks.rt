@@ -11,7 +11,8 @@ ghost use Rattle.pdc_row.specs.declared.limits.TheConstants.{MAX_PMUS};
 use crate::limits::MAX_PMUS;
 use crate::offered::are_bytes;
 use crate::present::has_data;
-use crate::{CopyFrom, Offered};
+use crate::shapes::are_same;
+use crate::{CopyFrom, Offered, Shapes};
 use arrayvec::ArrayVec;
 use pdc_block::{Block, Body, Shape, absent, bodies_are_their_words, cut};
 use std::fmt;
@@ -148,6 +149,14 @@ impl RowBlocks {
         ensures { result.now ≡ shapes_of self.now }
     {
         &self.shapes[..self.count]
+    }
+
+    /// Whether these are their shapes, as far as it is told at a look: where it is said, they are.
+    #[inline(always)]
+    pub fn has_shapes(&self, shapes: &Shapes) -> bool
+        ensures { result ≡ true → shapes_of self.now ≡ shapes.now }
+    {
+        self.count == shapes.count && are_same(&self.shapes, &shapes.each)
     }
 
     /// The block at a place, lent.

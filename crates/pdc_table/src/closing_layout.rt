@@ -29,11 +29,7 @@ impl ClosingLayout {
         ensures { result ≡ no_layout }
     {
         ClosingLayout {
-            layout: RowLayout {
-                start: 0,
-                change: 0,
-                shapes: ArrayVec::new(),
-            },
+            layout: RowLayout::new(0, 0, ArrayVec::new()),
         }
     }
 

@@ -8,28 +8,34 @@
 #![tactic(auto)]
 
 mod ages;
+mod bodies;
 mod circle;
 mod closing_layout;
 mod copied;
 mod front;
+mod laid;
 mod laws;
 mod ring;
 mod ring_closing;
 mod ring_table;
 mod spare;
+mod streams;
 mod table_trait;
 
+pub use bodies::{Room, cut_bodies, new_room};
 use closing_layout::ClosingLayout;
 pub use front::{is_near, remove_front};
+pub use laid::laid_out;
 pub use laws::{
     ages_are_ticks, blocks_stand_in_their_columns, cells_are_first_puts, instants_open_where_taken,
     rows_close_where_due, rows_come_out_rising,
 };
 pub use pdc_open_row::{
     Blocks, CopyFrom, DueRow, Listed, MAX_COLUMNS, MAX_LANES, MAX_WINDOW, MIN_WINDOW, OpenRow,
-    Part, Places, PutOutcome, Room, RowBlocks, RowLayout, WaitRule, copy_block, copy_each,
-    copy_items, falses, lane_of, new_room, stream_count,
+    Part, Places, PutOutcome, RowBlocks, RowLayout, Shapes, WaitRule, copy_block, copy_each,
+    copy_items, falses,
 };
 pub use ring_table::RingTable;
 pub use spare::spare_row;
+pub use streams::{lane_of, stream_count};
 pub use table_trait::Table;

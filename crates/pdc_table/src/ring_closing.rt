@@ -20,7 +20,7 @@ use crate::copied::copy_at_queued;
 use crate::ring::{Rows, count_disagreements, count_due};
 use crate::{ClosingLayout, RowLayout, WaitRule};
 use pdc_memory::{Held, HeldQueue};
-use pdc_open_row::{DueRow, RowBlocks};
+use pdc_open_row::{DueRow, OpenRow};
 use std::alloc::{AllocError, Global};
 
 /// What is closed of a ring and was not popped, and what every closing adds to.
@@ -218,33 +218,25 @@ pub fn pop(
 {
     let instant = closed.pop_front()?;
     let place = circle.place_of(instant);
-    let open_row = rows.places.item(place);
-    let layout = layouts[place].layout();
-    let mut row = DueRow {
-        instant: open_row.instant(),
-        start: layout.start,
-        change: layout.change,
-        quality: 0,
-        blocks: RowBlocks::new(),
-    };
-    row.quality = open_row.fill(layout, &mut row.blocks);
-    Some(row)
+    Some(rows.places.item(place).close(layouts[place].layout()))
 }
 
 /// Takes the lowest closed instant out, and writes its row over this one. Whether there was one.
 pub fn pop_into(
-    rows: &Rows,
+    places: &mut Held<OpenRow>,
     layouts: &[ClosingLayout],
     circle: &Circle,
     closed: &mut HeldQueue<u64>,
     row: &mut DueRow,
 ) -> bool
-    requires size { length rows.now.places.items ≡ circle.now.window }
+    requires size { length places.old.items ≡ circle.now.window }
     requires layouts_size { length layouts.now ≡ circle.now.window }
     ensures row { popped_into result row.new
-        ≡ slice_get (closed_rows rows.now.places.items layouts.now circle.now.window
+        ≡ slice_get (closed_rows places.old.items layouts.now circle.now.window
         closed.old.items) 0 }
     ensures none { result ≡ false → row.new ≡ row.old }
+    ensures places { places.new.items ≡ places.old.items }
+    ensures places_capacity { places.new.capacity ≡ places.old.capacity }
     ensures rest { closed.new.items ≡ drop 1 closed.old.items }
     ensures capacity { closed.new.capacity ≡ closed.old.capacity }
 {
@@ -252,8 +244,8 @@ pub fn pop_into(
         return false;
     };
     let place = circle.place_of(instant);
-    rows.places
-        .item(place)
+    places
+        .item_mut(place)
         .close_into(layouts[place].layout(), row);
     true
 }

@@ -6,11 +6,13 @@ ghost use Rattle.pdc_table.specs.Steps.{after_put, put_answer};
 use crate::circle::Circle;
 use crate::ring::Rows;
 use crate::ring_closing::Closed;
-use crate::{MAX_COLUMNS, PutOutcome, RowLayout, Table, WaitRule, ring, ring_closing};
+use crate::{
+    MAX_COLUMNS, PutOutcome, RowLayout, Table, WaitRule, lane_of, ring, ring_closing, stream_count,
+};
 use arrayvec::ArrayVec;
 use pdc_open_row::{
-    Block, Blocks, Body, Cut, DueRow, Listed, Part, Places, copy_items, falses, lane_of,
-    numbers_rise, stream_count,
+    Block, Blocks, Body, Cut, DueRow, Listed, Part, Places, Shapes, copy_items, falses,
+    numbers_rise,
 };
 use std::alloc::{AllocError, Global};
 use std::marker::Model;
@@ -154,10 +156,12 @@ impl Table for RingTable {
         stream: usize,
         instant: u64,
         parts: &[P],
+        laid: Option<&Shapes>,
         bytes: &[u8],
         quality: u8,
     ) -> PutOutcome {
-        self.offer(stream, instant, &Cut { parts, bytes }, quality)
+        let blocks = Cut { parts, laid, bytes };
+        self.offer(stream, instant, &blocks, quality)
     }
 
     fn require(&mut self, stream: usize, is_required: bool) {
@@ -227,7 +231,7 @@ impl Table for RingTable {
             ..
         } = self;
         ring_closing::pop_into(
-            rows,
+            &mut rows.places,
             closed.layouts.as_slice(),
             circle,
             &mut closed.instants,

@@ -217,11 +217,7 @@ fn layout(columns: &str) -> RowLayout {
             });
         }
     }
-    RowLayout {
-        start: 1,
-        change: 2,
-        shapes,
-    }
+    RowLayout::new(1, 2, shapes)
 }
 
 fn append(text: &mut String, word: &str) -> Result<(), AllocError> {

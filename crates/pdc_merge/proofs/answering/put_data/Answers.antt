@@ -1,10 +1,10 @@
-use Rattle.std.proofs.Common.{◌≡◌, ◌∷◌, ◌∙◌, ◌-◌, ℕ, List, ap, arith, drop, length, subst, sym, take, true}
+use Rattle.std.proofs.Common.{◌≡◌, ◌∷◌, ◌∙◌, ◌-◌, ℕ, Bool, List, ap, arith, drop, length, subst, sym, take, true}
 use Rattle.std.proofs.lemmas.List.{length-drop, take_all}
 use Rattle.pdc_block.specs.Block.{words_in}
 use Rattle.pdc_block.specs.Laws.{WordsAreCut}
 use Rattle.pdc_row.specs.CellView.{CellView}
 use Rattle.pdc_table.specs.Content.{IsPut}
-use Rattle.pdc_table.specs.pdc_open_row.Parts.{cut_cells}
+use Rattle.pdc_table.specs.pdc_open_row.Parts.{cut_cells, laid_out}
 use Rattle.pdc_life.specs.Answer.{outcome_in_time, with_cells}
 use Rattle.pdc_life.specs.Arrival.{Data}
 use Rattle.pdc_life.specs.Life.{Arrive}
@@ -30,22 +30,30 @@ cut a q sections lent payload w e h =
     ∙ ap (λ (ss : List HeldSection). cells_in a q ss (words_in (take (length payload - 14) (drop 14 payload)))) e
     ∙ behind a q sections payload w
 
+-- where it was said that each is
+known : (a : State) (lent sections : List HeldSection) (b : Bool) → lent ≡ sections → b ≡ are_in_force a sections → b ≡ true → are_in_force a lent ≡ true
+known a lent sections b e h t = ap (are_in_force a) e ∙ sym h ∙ t
+
 pub put_parts-requires-clause-put : goal.put_parts-requires-clause-put
 put_parts-requires-clause-put g c =
     let a = c.args.alignment.now.state in
     subst (λ (cs : List (ℕ × CellView)). IsPut a.content c.args.stream cs)
-    (sym (cut a c.args.quality c.args.layout.now.sections c.sections-sections.result.now c.args.payload.now c.words_are_cut.ensures c.sections-sections.ensures.sections (sym c.if-are_in_force.ensures)))
+    (sym (cut a c.args.quality c.args.layout.now.sections c.sections.result.now c.args.payload.now c.words_are_cut.ensures c.sections.ensures.sections (known c.args.alignment.now.state c.sections.result.now c.args.layout.now.sections c.args.is_in_force c.sections.ensures.sections c.requires.in_force c.if-is_in_force.true)))
     (is_put a c.args.stream c.args.quality c.args.layout.now.sections (drop 7 (words_in c.args.payload.now)) c.requires.each c.requires.lanes c.requires.stream c.requires.in_place)
 
-pub returns-then-are_in_force-clause-answer : goal.returns-then-are_in_force-clause-answer
-returns-then-are_in_force-clause-answer g c life E stands =
+pub put_parts-requires-clause-laid : goal.put_parts-requires-clause-laid
+put_parts-requires-clause-laid g c =
+    c.laid.ensures ∙ ap (laid_out (λ (s : HeldSection). s.column) (λ (s : HeldSection). s.shape)) (sym c.sections.ensures.sections)
+
+pub returns-then-is_in_force-clause-answer : goal.returns-then-is_in_force-clause-answer
+returns-then-is_in_force-clause-answer g c life E stands =
     c.put_parts.ensures.answer life E stands
     ∙ ap (outcome_in_time life E c.args.stream c.args.instant)
-    (cut c.args.alignment.now.state c.args.quality c.args.layout.now.sections c.sections-sections.result.now c.args.payload.now c.words_are_cut.ensures c.sections-sections.ensures.sections (sym c.if-are_in_force.ensures))
+    (cut c.args.alignment.now.state c.args.quality c.args.layout.now.sections c.sections.result.now c.args.payload.now c.words_are_cut.ensures c.sections.ensures.sections (known c.args.alignment.now.state c.sections.result.now c.args.layout.now.sections c.args.is_in_force c.sections.ensures.sections c.requires.in_force c.if-is_in_force.true))
 
-pub returns-then-are_in_force-clause-stands : goal.returns-then-are_in_force-clause-stands
-returns-then-are_in_force-clause-stands g c life E bytes stands =
+pub returns-then-is_in_force-clause-stands : goal.returns-then-is_in_force-clause-stands
+returns-then-is_in_force-clause-stands g c life E bytes stands =
     subst (λ (cs : List (ℕ × CellView)). IsRun life (Arrive c.args.stream bytes (Data c.args.instant c.args.quality c.args.payload.now) (with_cells c.put_parts.result cs) ∷ E)
     → StandsFor life (Arrive c.args.stream bytes (Data c.args.instant c.args.quality c.args.payload.now) (with_cells c.put_parts.result cs) ∷ E) c.put_parts.new.self.state)
-    (cut c.args.alignment.now.state c.args.quality c.args.layout.now.sections c.sections-sections.result.now c.args.payload.now c.words_are_cut.ensures c.sections-sections.ensures.sections (sym c.if-are_in_force.ensures))
+    (cut c.args.alignment.now.state c.args.quality c.args.layout.now.sections c.sections.result.now c.args.payload.now c.words_are_cut.ensures c.sections.ensures.sections (known c.args.alignment.now.state c.sections.result.now c.args.layout.now.sections c.args.is_in_force c.sections.ensures.sections c.requires.in_force c.if-is_in_force.true))
     (c.put_parts.ensures.stands life E bytes c.args.payload.now stands)

@@ -14,7 +14,7 @@ invariant_of-result g c = record {
       ∙ sym (ap (λ (t : Content). t.columns) c.in_ok-new_table.ensures.content);
   lanes = sym (ap (λ (t : Content). t.lanes) c.in_ok-new_table.ensures.content);
   gone = popped_first c.args.plan.window c.args.plan.columns c.args.plan.lanes c.args.floor (g.T.Table.content c.in_ok-new_table.field-0) c.in_ok-new_table.ensures.content;
-  shapes = c.shapes-shapes.ensures ∙ ap shapes_in c.as_slice.ensures.value;
+  shapes = c.new.ensures.shapes ∙ c.shapes-shapes.ensures ∙ ap shapes_in c.as_slice.ensures.value;
   quiet = λ e. absurd (true≢false (sym e));
 }
 

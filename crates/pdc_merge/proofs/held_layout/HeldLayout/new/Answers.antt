@@ -5,7 +5,7 @@ use Rattle.pdc_merge.specs.Held.{LayoutView, held_section_of}
 use Rattle.pdc_merge.specs.declared.held_layout.HeldSection.{HeldSection}
 use Rattle.pdc_merge.proofs.held_layout.HeldLayout.new.Goals as goal
 
-abbrev kept : goal.After-len_of → List HeldSection → LayoutView
+abbrev kept : goal.After-laid_out → List HeldSection → LayoutView
 kept c sections = record { stamp = stamp_view c.args.stamp; sections = sections }
 
 pub returns : goal.returns

@@ -1,18 +1,22 @@
-use Rattle.std.proofs.Common.{length, subst, sym}
+use Rattle.std.proofs.Common.{length, subst, sym, ◌∙◌}
 use Rattle.pdc_life.specs.Arrival.{Data}
 use Rattle.pdc_life.specs.CoreKind.{OfMerger, Says}
 use Rattle.pdc_life.specs.Merger.{merged_answer}
 use Rattle.pdc_merge.specs.Merger.{MergerView, StandsFor}
+use Rattle.pdc_merge.proofs.InForce.{same_in_force}
 use Rattle.pdc_merge.proofs.Lives.{arrives, is_ready, is_whole}
 use Rattle.pdc_merge.proofs.merger.Merger.arrive_data.Goals as goal
 
 pub answer_data-outcome-requires-clause-ready : goal.answer_data-outcome-requires-clause-ready
-answer_data-outcome-requires-clause-ready g c = is_ready (length c.self.inside.settings.sources.items) c.self.inside.alignment.state c.self.inside.layouts c.self.invariant
+answer_data-outcome-requires-clause-ready g c = is_ready (length c.self.inside.settings.sources.items) c.self.inside.alignment.state c.self.inside.layouts c.self.inside.in_force c.self.invariant
 
 pub invariant_of-self : goal.invariant_of-self
 invariant_of-self g c =
     is_whole (length c.self.inside.settings.sources.items) c.self.inside.alignment.state c.answer_data-outcome.new.alignment.state c.self.inside.layouts c.self.inside.layouts
-    c.answer_data-outcome.ensures.unchanged.sizes (is_ready (length c.self.inside.settings.sources.items) c.self.inside.alignment.state c.self.inside.layouts c.self.invariant).in_place c.self.invariant
+    c.self.inside.in_force c.self.inside.in_force c.answer_data-outcome.ensures.unchanged.sizes
+    (is_ready (length c.self.inside.settings.sources.items) c.self.inside.alignment.state c.self.inside.layouts c.self.inside.in_force c.self.invariant).in_place
+    (c.self.invariant.known ∙ sym (same_in_force c.self.inside.alignment.state c.answer_data-outcome.new.alignment.state c.self.inside.layouts c.answer_data-outcome.ensures.unchanged.in_force))
+    c.self.invariant
 
 pub returns-clause-stands : goal.returns-clause-stands
 returns-clause-stands g c h E bytes reads before =

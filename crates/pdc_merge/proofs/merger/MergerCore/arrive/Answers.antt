@@ -3,6 +3,7 @@ use Rattle.pdc_core.specs.Fits.{fits_merger}
 use Rattle.pdc_life.specs.CoreKind.{OfMerger, Says}
 use Rattle.pdc_life.specs.Merger.{merged_answer}
 use Rattle.pdc_arrival.specs.Views.{arrival_view}
+use Rattle.pdc_merge.specs.Held.{AreAllInPlace}
 use Rattle.pdc_merge.specs.Merger.{MergerView, StandsFor}
 use Rattle.pdc_merge.proofs.Lives.{arrives, is_ready, is_whole, same_place}
 use Rattle.pdc_merge.proofs.Passed.{passed}
@@ -16,12 +17,15 @@ answer-outcome-requires-clause-placed g c =
     (subst (λ (n : MergerView). fits_merger n.settings c.args.stream (arrival_view c.args.arrival.now) ≡ true) (sym c.self.view_is) c.requires))
 
 pub answer-outcome-requires-clause-ready : goal.answer-outcome-requires-clause-ready
-answer-outcome-requires-clause-ready g c = is_ready (length c.self.inside.settings.sources.items) c.self.inside.alignment.state c.self.inside.layouts c.self.invariant
+answer-outcome-requires-clause-ready g c = is_ready (length c.self.inside.settings.sources.items) c.self.inside.alignment.state c.self.inside.layouts c.self.inside.in_force c.self.invariant
+
+pub layouts_in_force-self-inside-requires : goal.layouts_in_force-self-inside-requires
+layouts_in_force-self-inside-requires g c = subst (λ n. AreAllInPlace n c.answer-outcome.new.layouts) (sym c.answer-outcome.ensures.unchanged.sizes.each) c.answer-outcome.ensures.in_place
 
 pub invariant_of-self : goal.invariant_of-self
 invariant_of-self g c =
     is_whole (length c.self.inside.settings.sources.items) c.self.inside.alignment.state c.answer-outcome.new.alignment.state c.self.inside.layouts c.answer-outcome.new.layouts
-    c.answer-outcome.ensures.unchanged.sizes c.answer-outcome.ensures.in_place c.self.invariant
+    c.self.inside.in_force c.layouts_in_force-self-inside.result c.answer-outcome.ensures.unchanged.sizes c.answer-outcome.ensures.in_place c.layouts_in_force-self-inside.ensures c.self.invariant
 
 pub returns-clause-stands : goal.returns-clause-stands
 returns-clause-stands g c h E bytes reads before =

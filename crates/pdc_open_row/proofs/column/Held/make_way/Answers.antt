@@ -1,7 +1,7 @@
 use Rattle.std.proofs.Common.{None, ap, get_or}
 use Rattle.pdc_row.specs.CellView.{BlockView}
 use Rattle.pdc_open_row.specs.OpenRowParts.{block_of_second}
-use Rattle.pdc_open_row.specs.Views.{ColumnView, kept}
+use Rattle.pdc_open_row.specs.Views.{kept}
 use Rattle.pdc_open_row.proofs.Alike.{stays}
 use Rattle.pdc_open_row.proofs.column.Held.make_way.Goals as goal
 

@@ -1,7 +1,6 @@
 use Rattle.std.proofs.Common.{◌∙◌, ◌<◌, ap, get_or, length, subst, sym}
 use Rattle.std.proofs.lemmas.List.{length-set}
 use Rattle.pdc_row.specs.CellView.{BlockView, same_block}
-use Rattle.pdc_open_row.specs.declared.column.Held.{Held}
 use Rattle.pdc_open_row.proofs.column.Held.meet.Goals as goal
 
 pub returns-clause-held : goal.returns-clause-held

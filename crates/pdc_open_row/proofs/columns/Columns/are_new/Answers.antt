@@ -1,4 +1,3 @@
-use Rattle.std.proofs.Common.{false}
 use Rattle.pdc_open_row.proofs.OpenRowParts.{all_new}
 use Rattle.pdc_open_row.proofs.WholeFrames.{denied}
 use Rattle.pdc_open_row.proofs.columns.Columns.are_new.Goals as goal

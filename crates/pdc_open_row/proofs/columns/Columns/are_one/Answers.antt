@@ -1,4 +1,4 @@
-use Rattle.std.proofs.Common.{◌≡◌, ◌∙◌, ◌||◌, Bool, false, not, refl, true}
+use Rattle.std.proofs.Common.{not, refl}
 use Rattle.pdc_open_row.proofs.OpenRowParts.{none_disagree_once, or_last}
 use Rattle.pdc_open_row.proofs.columns.Columns.are_one.Goals as goal
 

@@ -17,9 +17,8 @@ returns-in-Some-clause-blocks c =
     ∙ sym (blocks_once c.in-Some.held first second (omega (arith, c.self.invariant.first, c.self.invariant.second)) (c.gives_first.ensures.first c.if-gives_first.true) (c.gives_first.ensures.second c.if-gives_first.true))
     ∙ ap (λ n. blocks_of (map (λ (s : Shape). Some s) (shapes_of first)) (columns_of (replicate n c.in-Some.held) first second)) c.self.invariant.first
     ∙ ap (λ (hs : List Held). blocks_of (map (λ (s : Shape). Some s) (shapes_of first)) (columns_of hs first second)) (sym c.in-Some.ensures)
-    ∙ ap (λ (ss : List Shape). blocks_of (map (λ (s : Shape). Some s) ss) (columns_of c.self.inside.held first second)) (sym c.shapes.ensures)
-    ∙ ap (λ (os : List (Option Shape)). blocks_of os (columns_of c.self.inside.held first second)) (sym (c.are_shapes.ensures c.if-not-are_shapes.false))
-    ∙ ap (λ (cs : List ColumnView). blocks_of c.args.shapes.now cs) c.self.view_is
+    ∙ ap (λ (os : List (Option Shape)). blocks_of os (columns_of c.self.inside.held first second)) (sym (c.have_shapes.ensures c.if-not-have_shapes.false))
+    ∙ ap (λ (cs : List ColumnView). blocks_of c.args.layout.now.shapes.items cs) c.self.view_is
 
 pub returns-in-Some-clause-few : goal.returns-in-Some-clause-few
 returns-in-Some-clause-few c = omega (arith, ap length c.copy_from.ensures, c.self.invariant.first, c.len.ensures.value, c.len.ensures.most)

@@ -1,16 +1,14 @@
-use Rattle.std.proofs.Common.{◌∙◌, List, ap, arith, length, sym, true}
+use Rattle.std.proofs.Common.{◌∙◌, ap, arith, length, true}
 use Rattle.std.proofs.lemmas.List.{length-replicate}
-use Rattle.pdc_row.specs.pdc_cfg.declared.shape.Shape.{Shape}
 use Rattle.pdc_row.specs.KeptBlocks.{shapes_of}
-use Rattle.pdc_open_row.specs.Parts.{are_laid_out}
 use Rattle.pdc_open_row.proofs.WholeFrames.{as_many, denied, laid_len, whole_first_alone, whole_first_twin, with_first}
 use Rattle.pdc_open_row.proofs.columns.Columns.put_whole_first.Goals as goal
 
 pub write_over-requires : goal.write_over-requires
-write_over-requires g c = c.requires ∙ laid_len g.P.Part.column_of g.P.Part.shape_of c.args.parts.now (shapes_of c.self.inside.first) 0 (ap (λ (shapes : List Shape). are_laid_out g.P.Part.column_of g.P.Part.shape_of c.args.parts.now shapes 0) (sym c.shapes.ensures) ∙ sym c.are_laid_out.ensures ∙ c.if-not-are_laid_out.false)
+write_over-requires g c = c.requires.size ∙ laid_len g.P.Part.column_of g.P.Part.shape_of c.args.parts.now (shapes_of c.self.inside.first) 0 (c.fits.ensures c.if-not-fits.false)
 
 pub write_over-requires-2 : goal.write_over-requires-2
-write_over-requires-2 g c = c.requires ∙ laid_len g.P.Part.column_of g.P.Part.shape_of c.args.parts.now (shapes_of c.self.inside.first) 0 (ap (λ (shapes : List Shape). are_laid_out g.P.Part.column_of g.P.Part.shape_of c.args.parts.now shapes 0) (sym c.shapes.ensures) ∙ sym c.are_laid_out.ensures ∙ c.if-not-are_laid_out.false)
+write_over-requires-2 g c = c.requires.size ∙ laid_len g.P.Part.column_of g.P.Part.shape_of c.args.parts.now (shapes_of c.self.inside.first) 0 (c.fits.ensures c.if-not-fits.false)
 
 pub invariant_of-self : goal.invariant_of-self
 invariant_of-self g c = record {
@@ -27,12 +25,12 @@ invariant_of-self-2 g c = record {
 pub returns-then-not-held-clause-whole : goal.returns-then-not-held-clause-whole
 returns-then-not-held-clause-whole g c = λ _.
     whole_first_alone g.P.Part.column_of g.P.Part.shape_of c.args.parts.now c.args.quality c.args.bytes.now c.self.inside.held c.fill.new.self c.in-Some.held c.self.inside.first c.self.inside.second c.write_over.new.self c.args.self.now
-    c.words_are_cut.ensures (ap (λ (shapes : List Shape). are_laid_out g.P.Part.column_of g.P.Part.shape_of c.args.parts.now shapes 0) (sym c.shapes.ensures) ∙ sym c.are_laid_out.ensures ∙ c.if-not-are_laid_out.false)
+    c.words_are_cut.ensures (c.fits.ensures c.if-not-fits.false)
     c.self.view_is c.in-Some.ensures c.self.invariant.first c.self.invariant.second (denied c.in-Some.held.second c.if-not-held.true) c.write_over.ensures c.fill.ensures
 
 pub returns-clause-whole : goal.returns-clause-whole
 returns-clause-whole g c = λ _.
     whole_first_twin g.P.Part.column_of g.P.Part.shape_of c.args.parts.now c.args.quality c.args.bytes.now c.self.inside.held c.fill-2.new.self c.in-Some.held c.self.inside.first c.self.inside.second c.write_over-2.new.self c.args.self.now
-    c.words_are_cut.ensures (ap (λ (shapes : List Shape). are_laid_out g.P.Part.column_of g.P.Part.shape_of c.args.parts.now shapes 0) (sym c.shapes.ensures) ∙ sym c.are_laid_out.ensures ∙ c.if-not-are_laid_out.false)
-    (ap (λ (shapes : List Shape). are_laid_out g.P.Part.column_of g.P.Part.shape_of c.args.parts.now shapes 0) (sym c.shapes-else-held.ensures) ∙ sym c.are_laid_out-else-held.ensures ∙ c.if-not-are_laid_out-2.false)
+    c.words_are_cut.ensures (c.fits.ensures c.if-not-fits.false)
+    (c.fits-else-held.ensures c.if-not-fits-2.false)
     c.self.view_is c.in-Some.ensures c.self.invariant.first c.self.invariant.second c.if-held.false (c.has_bytes.ensures.same c.if-not-has_bytes.false) c.write_over-2.ensures c.fill-2.ensures

@@ -1,20 +1,18 @@
-use Rattle.std.proofs.Common.{◌∙◌, List, ap, arith, false, length, sym, true}
+use Rattle.std.proofs.Common.{◌∙◌, ap, arith, false, length}
 use Rattle.std.proofs.lemmas.Bool.{ne_eqb}
 use Rattle.std.proofs.lemmas.List.{length-replicate}
-use Rattle.pdc_row.specs.pdc_cfg.declared.shape.Shape.{Shape}
 use Rattle.pdc_row.specs.KeptBlocks.{shapes_of}
-use Rattle.pdc_open_row.specs.Parts.{are_laid_out}
 use Rattle.pdc_open_row.proofs.WholeFrames.{as_many, laid_len, whole_second_own, whole_second_twin, with_second}
 use Rattle.pdc_open_row.proofs.columns.Columns.put_whole_second.Goals as goal
 
 pub returns-then-has_bytes-clause-whole : goal.returns-then-has_bytes-clause-whole
 returns-then-has_bytes-clause-whole g c = λ _.
     whole_second_twin g.P.Part.column_of g.P.Part.shape_of c.args.parts.now c.args.lane c.args.quality c.args.bytes.now c.self.inside.held c.fill.new.self c.in-Some.held c.self.inside.first c.self.inside.second c.args.self.now
-    (ne_eqb c.args.lane 0 (λ e. omega (arith, e, c.requires.lane))) c.words_are_cut.ensures (ap (λ (shapes : List Shape). are_laid_out g.P.Part.column_of g.P.Part.shape_of c.args.parts.now shapes 0) (sym c.shapes.ensures) ∙ sym c.are_laid_out.ensures ∙ c.if-are_laid_out.true)
+    (ne_eqb c.args.lane 0 (λ e. omega (arith, e, c.requires.lane))) c.words_are_cut.ensures (c.fits.ensures c.if-fits.true)
     c.self.view_is c.in-Some.ensures c.self.invariant.first c.self.invariant.second (c.has_bytes.ensures.same c.if-has_bytes.true) c.fill.ensures
 
 pub write_over-requires : goal.write_over-requires
-write_over-requires g c = c.requires.size ∙ laid_len g.P.Part.column_of g.P.Part.shape_of c.args.parts.now (shapes_of c.self.inside.second) 0 (ap (λ (shapes : List Shape). are_laid_out g.P.Part.column_of g.P.Part.shape_of c.args.parts.now shapes 0) (sym c.shapes-2.ensures) ∙ sym c.are_laid_out-2.ensures ∙ c.if-not-are_laid_out.false)
+write_over-requires g c = c.requires.size ∙ laid_len g.P.Part.column_of g.P.Part.shape_of c.args.parts.now (shapes_of c.self.inside.second) 0 (c.fits-2.ensures c.if-not-fits.false)
 
 pub invariant_of-self-2 : goal.invariant_of-self-2
 invariant_of-self-2 g c = record {
@@ -25,5 +23,5 @@ invariant_of-self-2 g c = record {
 pub returns-clause-whole : goal.returns-clause-whole
 returns-clause-whole g c = λ _.
     whole_second_own g.P.Part.column_of g.P.Part.shape_of c.args.parts.now c.args.lane c.args.quality c.args.bytes.now c.self.inside.held c.fill-2.new.self c.in-Some.held c.self.inside.first c.self.inside.second c.write_over.new.self c.args.self.now
-    (ne_eqb c.args.lane 0 (λ e. omega (arith, e, c.requires.lane))) c.words_are_cut.ensures (ap (λ (shapes : List Shape). are_laid_out g.P.Part.column_of g.P.Part.shape_of c.args.parts.now shapes 0) (sym c.shapes-2.ensures) ∙ sym c.are_laid_out-2.ensures ∙ c.if-not-are_laid_out.false)
+    (ne_eqb c.args.lane 0 (λ e. omega (arith, e, c.requires.lane))) c.words_are_cut.ensures (c.fits-2.ensures c.if-not-fits.false)
     c.self.view_is c.in-Some.ensures c.self.invariant.first c.self.invariant.second c.write_over.ensures c.fill-2.ensures

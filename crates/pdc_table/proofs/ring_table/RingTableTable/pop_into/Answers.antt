@@ -19,15 +19,15 @@ rest c =
 
 pub invariant_of-self : goal.invariant_of-self
 invariant_of-self c = record {
-  content = rw (rest c) (keeps-pop c.numbers_rise.ensures (content_of c.self.inside) c.self.invariant.content);
-  size = c.self.invariant.size;
-  each = c.self.invariant.each;
-  placed = c.self.invariant.placed;
+  content = rw (c.pop_into.ensures.places, rest c) (keeps-pop c.numbers_rise.ensures (content_of c.self.inside) c.self.invariant.content);
+  size = rw c.pop_into.ensures.places c.self.invariant.size;
+  each = rw c.pop_into.ensures.places c.self.invariant.each;
+  placed = rw c.pop_into.ensures.places c.self.invariant.placed;
   ages = c.self.invariant.ages;
   layouts = c.self.invariant.layouts;
-  closed_placed = rw c.pop_into.ensures.rest (placed-less c.self.inside.rows.places.items c.self.inside.circle.window c.self.inside.closed.instants.items c.self.invariant.closed_placed);
-  known = c.self.invariant.known;
-  stand = c.self.invariant.stand;
+  closed_placed = rw (c.pop_into.ensures.places, c.pop_into.ensures.rest) (placed-less c.self.inside.rows.places.items c.self.inside.circle.window c.self.inside.closed.instants.items c.self.invariant.closed_placed);
+  known = rw c.pop_into.ensures.places c.self.invariant.known;
+  stand = rw c.pop_into.ensures.places c.self.invariant.stand;
   room = c.self.invariant.room;
   closed_room = rw c.pop_into.ensures.capacity c.self.invariant.closed_room;
 }
@@ -41,7 +41,7 @@ returns-clause-answer c =
 
 pub returns-clause-content : goal.returns-clause-content
 returns-clause-content c =
-    ap (λ (rows : List RowView). record (content_of c.self.inside) { closed = rows }) (rest c) ∙ ap (λ (t : TableView). after_pop t.content) c.self.view_is
+    rw c.pop_into.ensures.places (ap (λ (rows : List RowView). record (content_of c.self.inside) { closed = rows }) (rest c) ∙ ap (λ (t : TableView). after_pop t.content) c.self.view_is)
 
 pub returns-clause-well_formed : goal.returns-clause-well_formed
-returns-clause-well_formed c = rw (rest c) (keeps-pop c.numbers_rise.ensures (content_of c.self.inside) c.self.invariant.content)
+returns-clause-well_formed c = rw (c.pop_into.ensures.places, rest c) (keeps-pop c.numbers_rise.ensures (content_of c.self.inside) c.self.invariant.content)
