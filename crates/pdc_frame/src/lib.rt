@@ -23,6 +23,7 @@ mod command_laws;
 mod fault;
 mod frame;
 mod framer;
+mod fronts;
 mod header;
 mod held;
 mod id;
@@ -45,6 +46,7 @@ pub use command_laws::{commands_are_read_in_one_way, headers_are_read_in_one_way
 pub use fault::FrameFault;
 pub use frame::{Frame, Kind};
 pub use framer::Framer;
+pub use fronts::front_of;
 pub use header::{MAX_TEXT, read_header, write_header};
 pub use id::StreamId;
 pub use laws::{
@@ -55,8 +57,9 @@ pub use limits::{
     CHECK_LEN, HEADER_LEN, MAX_FRAC, MAX_ID, MAX_PAYLOAD, MAX_SIZE, MAX_VERSION, OVERHEAD,
 };
 pub use pdc_words::{
-    check_word, check_word_is_the_remainder, check_word_of_other, check_words_are_linear,
-    moved_past, parts_keep_their_words, power_past, read_long, read_word, words_are_their_bytes,
+    CheckedFront, FRONT_LEN, FrontDifference, check_word, check_word_is_the_remainder,
+    check_word_of_other, check_words_are_linear, moved_past, parts_keep_their_words, power_past,
+    read_long, read_word, words_are_their_bytes,
 };
 pub use reading::read_frame;
 pub use slots::{instant, slot};
@@ -65,4 +68,4 @@ pub use stream::frames_of;
 pub use tag_laws::{instant_is_nearest, slot_is_nearest, tag_comes_back, tag_is_nearest};
 pub use tag_limits::{COUNT_LIMIT, MAX_RATE, SECONDS};
 pub use tags::tag_of;
-pub use writing::{begin_frame, end_frame, write_ends, write_frame};
+pub use writing::{begin_frame, end_frame, write_ends, write_fields, write_frame};

@@ -77,6 +77,21 @@ fn check_bytes(head: &Frame, payload: &[u8]) -> [u8; CHECK_LEN]
     check_word_behind(header_number(head, size as u16), payload).to_be_bytes()
 }
 
+/// Writes over these bytes what stands in a frame before a payload of so many bytes: the fields of `head`, whose own payload is not looked
+/// at.
+#[inline(always)]
+pub fn write_fields(head: &Frame, payload_len: usize, front: &mut [u8])
+    requires payload { payload_len ≤ MAX_PAYLOAD }
+    requires front { length front.old ≡ HEADER_LEN }
+    ensures front { front.new ≡ header_of (fields_of head.now) (payload_len + OVERHEAD) }
+    // The other fields are in range by their types.
+    ensures soc { head.now.soc < 2 ^ 32 }
+    ensures quality { head.now.quality < 2 ^ 8 }
+{
+    let size = payload_len + OVERHEAD;
+    front.copy_from_slice(&header_bytes(head, size as u16));
+}
+
 /// Writes over these bytes what stands before and behind this payload in a frame: the fields of `head`, whose own payload is not looked
 /// at, and CHK.
 #[inline(always)]
@@ -91,8 +106,7 @@ pub fn write_ends(head: &Frame, payload: &[u8], front: &mut [u8], back: &mut [u8
     ensures soc { head.now.soc < 2 ^ 32 }
     ensures quality { head.now.quality < 2 ^ 8 }
 {
-    let size = payload.len() + OVERHEAD;
-    front.copy_from_slice(&header_bytes(head, size as u16));
+    write_fields(head, payload.len(), front);
     back.copy_from_slice(&check_bytes(head, payload));
 }
 

@@ -5,3 +5,4 @@ pub mod Cells
 pub mod LongSteps
 pub mod LinearLemmas
 pub mod LaneSteps
+pub mod FrontLemmas
