@@ -126,10 +126,7 @@ impl HeldLayout {
         HeldLayout {
             stamp: self.stamp,
             len: self.len,
-            laid: match &self.laid {
-                Some(laid) => Some(laid.copy()),
-                None => None,
-            },
+            laid: Shapes::copy_of(&self.laid),
             sections,
         }
     }

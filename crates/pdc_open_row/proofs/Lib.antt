@@ -1,4 +1,3 @@
-mod AbsentBytes
 pub mod Alike
 pub mod Blank
 pub mod CutParts

@@ -1,5 +1,5 @@
 -- A frame whose blocks are one for each column, in their order: it is put as a whole.
-use Rattle.std.proofs.Common.{◌≡◌, ◌∙◌, ◌*◌, ◌≤◌, ◌&&◌, ℕ, Bool, true, false, not, List, [], ◌∷◌, ◌++◌, Some, ap, append_assoc, arith, drop, eqb, get_or, length, nat_eq, refl, replicate, set, suc, sym, take, zero}
+use Rattle.std.proofs.Common.{◌≡◌, ◌∙◌, ◌*◌, ◌≤◌, ◌&&◌, ℕ, Bool, true, false, List, [], ◌∷◌, ◌++◌, Some, ap, append_assoc, arith, drop, eqb, get_or, length, nat_eq, refl, replicate, set, suc, sym, take, zero}
 use Rattle.std.proofs.lemmas.Bool.{and_parts, eqb-true, false≢true}
 use Rattle.std.proofs.lemmas.List.{length-map, length-replicate}
 use Rattle.std.proofs.lemmas.List.Sums.{sum_by-cons}
@@ -228,7 +228,3 @@ whole_second_own column shape parts lane q bytes hs vs h fs ss ws now l w e seen
     (second_own lane q (length hs) h fs ss bs l a d b
     ∙ ap (λ (xs : List BlockView). columns_of (replicate (length hs) (with_second q false h)) fs xs) (sym written)
     ∙ ap (λ (xs : List Held). columns_of xs fs ws) (sym filled))
-
-pub denied : (b : Bool) → not b ≡ true → b ≡ false
-denied true e = absurd (false≢true e)
-denied false e = refl

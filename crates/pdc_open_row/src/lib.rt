@@ -7,7 +7,6 @@
 //! required stream was taken or the wait is over, and that it closes to the block of the lowest lane that is present.
 #![tactic(auto)]
 
-mod absent;
 mod blocks;
 mod column;
 mod columns;

@@ -2,8 +2,10 @@
 ghost use Rattle.std.specs.Prelude.{◌≡◌, ◌<◌, ◌≤◌, ◌*◌, ◌+◌, ◌++◌, ℕ, false, length, option_map};
 ghost use Rattle.std.specs.Prelude.{take, true};
 ghost use Rattle.std.specs.List.{AllByRecursion};
+ghost use Rattle.std.specs.Option.{ForSome};
 ghost use Rattle.pdc_row.specs.CellView.{CellView};
 ghost use Rattle.pdc_row.specs.pdc_block.Block.{words_in};
+ghost use Rattle.pdc_row.specs.pdc_frame.CheckWord.{check_word_of};
 ghost use Rattle.pdc_row.specs.pdc_cfg.declared.shape.Shape.{Shape as ShapeData};
 ghost use Rattle.pdc_open_row.specs.Parts.{cut_cells, laid_out, parts_len};
 ghost use Rattle.pdc_open_row.specs.Taking.{any_second, body_cells_of, conflicts, with_cells};
@@ -11,7 +13,7 @@ ghost use Rattle.pdc_open_row.specs.Taking.{any_second, body_cells_of, conflicts
 use crate::MAX_COLUMNS;
 use crate::blocks::Blocks;
 use crate::columns::Columns;
-use pdc_row::{Body, Shape, Shapes, words_are_cut};
+use pdc_row::{Body, CheckedFront, Shape, Shapes, words_are_cut};
 
 /// What a block of a payload is: its column, and its shape.
 pub trait Part {
@@ -37,9 +39,13 @@ pub struct Cut<'a, P: Part> {
     pub laid: Option<&'a Shapes>,
     /// The words of all, each with its high byte first.
     pub bytes: &'a [u8],
+    /// The front and the check word of the frame in which they came, if they are known: they stand between the two.
+    pub sent: Option<&'a CheckedFront>,
     pub ghost told: { option_map (λ shapes. shapes.now) laid ≡
         laid_out P.column_of P.shape_of parts.now },
     pub ghost whole: { length bytes.now ≡ parts_len P.shape_of parts.now },
+    pub ghost known: { ForSome sent (λ known. known.now.check ≡
+        check_word_of (known.now.bytes ++ bytes.now)) },
 }
 
 impl<P: Part> Blocks for Cut<'_, P> {
@@ -48,7 +54,7 @@ impl<P: Part> Blocks for Cut<'_, P> {
 
     /// Where they are laid out as the columns have them, they are put as a whole.
     fn put(&self, columns: &mut Columns, lane: usize, quality: u8, is_alone: bool) {
-        if !columns.put_whole(lane, self.parts, self.laid, self.bytes, quality) {
+        if !columns.put_whole(lane, self, quality) {
             put_parts(self.parts, self.bytes, columns, lane, quality, is_alone);
         }
     }

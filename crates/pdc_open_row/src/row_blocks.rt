@@ -12,7 +12,6 @@ ghost use Rattle.pdc_open_row.specs.OpenRowParts.{chosen_view, column_of, column
 ghost use Rattle.pdc_open_row.specs.Row.{blocks_of, qualities_of};
 
 use crate::MAX_COLUMNS;
-use crate::absent::put_absent;
 use crate::column::{Chosen, Held};
 use crate::lanes::Lanes;
 use pdc_row::{RowBlocks, Shape};
@@ -167,7 +166,7 @@ fn give_one_over(
             worse(above, chosen.quality % 16)
         }
         None => {
-            put_absent(blocks, place, shape);
+            blocks.put_absent(place, shape);
             above
         }
     }

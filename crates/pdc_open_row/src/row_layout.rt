@@ -55,9 +55,6 @@ impl CopyFrom for RowLayout {
         self.start = other.start;
         self.change = other.change;
         copy_items(&mut self.shapes, other.shapes.as_slice());
-        self.all = match &other.all {
-            Some(all) => Some(all.copy()),
-            None => None,
-        };
+        self.all = Shapes::copy_of(&other.all);
     }
 }

@@ -1,107 +1,77 @@
 //! Whole frames that are put into a row, and whole rows.
 ghost use Rattle.std.specs.Prelude.{◌≡◌, ◌<◌, ◌≤◌, ◌+◌, [], IfSome, List, Some, false, length, map};
-ghost use Rattle.std.specs.Prelude.{option_map, true};
+ghost use Rattle.std.specs.Prelude.{true};
 ghost use Rattle.pdc_row.specs.CellView.{BlockView};
 ghost use Rattle.pdc_row.specs.KeptBlocks.{shapes_of};
 ghost use Rattle.pdc_row.specs.Quality.{quality_of, worst_of};
 ghost use Rattle.pdc_row.specs.pdc_block.Block.{words_in};
 ghost use Rattle.pdc_open_row.specs.OpenRowParts.{columns_of, worst_kept};
-ghost use Rattle.pdc_open_row.specs.Parts.{cut_cells, laid_out, parts_len};
+ghost use Rattle.pdc_open_row.specs.Parts.{cut_cells};
 ghost use Rattle.pdc_open_row.specs.Row.{blocks_of, qualities_of};
 ghost use Rattle.pdc_open_row.specs.Taking.{with_cells};
 
-use crate::absent::put_absent;
 use crate::columns::Columns;
 use crate::laid::fits;
 use crate::lanes::Lanes;
-use crate::parts::Part;
+use crate::parts::{Cut, Part};
 use crate::row_blocks::{give_over, worst_of_one};
 use crate::{MAX_COLUMNS, RowLayout, WORST_QUALITY};
-use pdc_row::{CopyFrom, RowBlocks, Shape, Shapes, words_are_cut};
+use pdc_row::{CopyFrom, RowBlocks, Shape, words_are_cut};
 
 impl Columns {
     /// Puts the blocks of a whole frame, one for each column as they are laid out here, into this lane: by one copy, or by none where they are
     /// those of the other lane. Whether it did; else nothing is put.
-    pub(crate) fn put_whole<P: Part>(
-        &mut self,
-        lane: usize,
-        parts: &[P],
-        laid: Option<&Shapes>,
-        bytes: &[u8],
-        quality: u8,
-    ) -> bool
-        requires laid { option_map (λ shapes. shapes.now) laid ≡
-            laid_out P.column_of P.shape_of parts.now }
-        requires size { length bytes.now ≡ parts_len P.shape_of parts.now }
+    pub(crate) fn put_whole<P: Part>(&mut self, lane: usize, cut: &Cut<'_, P>, quality: u8) -> bool
         ensures whole { result ≡ true → self.new ≡ with_cells lane (cut_cells P.column_of P.shape_of
-            parts.now quality (words_in bytes.now)) self.old }
+            cut.now.parts.now quality (words_in cut.now.bytes.now)) self.old }
         ensures none { result ≡ false → self.new ≡ self.old }
     {
         if lane == 0 {
-            self.put_whole_first(parts, laid, bytes, quality)
+            self.put_whole_first(cut, quality)
         } else {
-            self.put_whole_second(lane, parts, laid, bytes, quality)
+            self.put_whole_second(lane, cut, quality)
         }
     }
 
     /// The same into lane 0.
     #[inline(always)]
-    fn put_whole_first<P: Part>(
-        &mut self,
-        parts: &[P],
-        laid: Option<&Shapes>,
-        bytes: &[u8],
-        quality: u8,
-    ) -> bool
-        requires laid { option_map (λ shapes. shapes.now) laid ≡
-            laid_out P.column_of P.shape_of parts.now }
-        requires size { length bytes.now ≡ parts_len P.shape_of parts.now }
+    fn put_whole_first<P: Part>(&mut self, cut: &Cut<'_, P>, quality: u8) -> bool
         ensures whole { result ≡ true → self.new ≡ with_cells 0 (cut_cells P.column_of P.shape_of
-            parts.now quality (words_in bytes.now)) self.old }
+            cut.now.parts.now quality (words_in cut.now.bytes.now)) self.old }
         ensures none { result ≡ false → self.new ≡ self.old }
     {
         words_are_cut();
         let Some(mut held) = self.held.one() else {
             return false;
         };
-        if !fits(parts, laid, &self.first) {
+        if !fits(cut.parts, cut.laid, &self.first) {
             return false;
         }
         held.first = true;
         held.first_quality = quality;
         if !held.second {
-            self.first.write_over(bytes);
+            self.first.write_over(cut.bytes, cut.sent);
             self.held.fill(held);
             return true;
         }
-        if held.alike || !fits(parts, laid, &self.second) {
+        if held.alike || !fits(cut.parts, cut.laid, &self.second) {
             return false;
         }
-        if !self.second.has_bytes(bytes) {
+        if !self.second.has_bytes(cut.bytes) {
             return false;
         }
         held.alike = true;
-        self.first.write_over(bytes);
+        self.first.write_over(cut.bytes, cut.sent);
         self.held.fill(held);
         true
     }
 
     /// The same into lane 1: what lane 0 has is not written again.
     #[inline(always)]
-    fn put_whole_second<P: Part>(
-        &mut self,
-        lane: usize,
-        parts: &[P],
-        laid: Option<&Shapes>,
-        bytes: &[u8],
-        quality: u8,
-    ) -> bool
-        requires lane { 0 < lane }
-        requires laid { option_map (λ shapes. shapes.now) laid ≡
-            laid_out P.column_of P.shape_of parts.now }
-        requires size { length bytes.now ≡ parts_len P.shape_of parts.now }
+    fn put_whole_second<P: Part>(&mut self, lane: usize, cut: &Cut<'_, P>, quality: u8) -> bool
+        requires { 0 < lane }
         ensures whole { result ≡ true → self.new ≡ with_cells lane (cut_cells P.column_of P.shape_of
-            parts.now quality (words_in bytes.now)) self.old }
+            cut.now.parts.now quality (words_in cut.now.bytes.now)) self.old }
         ensures none { result ≡ false → self.new ≡ self.old }
     {
         words_are_cut();
@@ -110,16 +80,16 @@ impl Columns {
         };
         held.second = true;
         held.second_quality = quality;
-        if fits(parts, laid, &self.first) && self.first.has_bytes(bytes) {
+        if fits(cut.parts, cut.laid, &self.first) && self.first.has_bytes(cut.bytes) {
             held.alike = true;
             self.held.fill(held);
             return true;
         }
-        if !fits(parts, laid, &self.second) {
+        if !fits(cut.parts, cut.laid, &self.second) {
             return false;
         }
         held.alike = false;
-        self.second.write_over(bytes);
+        self.second.write_over(cut.bytes, cut.sent);
         self.held.fill(held);
         true
     }
@@ -171,7 +141,7 @@ fn lay_out_empty(held: &Lanes, first: &mut RowBlocks, shapes: &[Shape])
     for place in 0..shapes.len() {
         let here = held.at(place);
         if !here.first && !here.second {
-            put_absent(first, place, shapes[place]);
+            first.put_absent(place, shapes[place]);
         }
     }
 }

@@ -3,7 +3,7 @@
 use Rattle.std.specs.Prelude.{◌≡◌, ℕ, ◌*◌, ◌/◌, ◌%◌, ◌^◌, ◌+◌, List, [], ◌∷◌, ◌++◌, length, replicate}
 use Rattle.std.specs.Int.{w16, w32, to_be_bytes, cast_unsigned}
 use Rattle.std.specs.List.{flat_map}
-use Rattle.pdc_row.specs.pdc_frame.Frame.{Fields, spelling_of}
+use Rattle.pdc_row.specs.pdc_frame.Frame.{Fields, header_of, spelling_of}
 use Rattle.pdc_row.specs.pdc_frame.declared.frame.Kind.TheVariants.{DataFrame, Cfg2}
 use Rattle.pdc_row.specs.pdc_cfg.Section.{SectionFields}
 use Rattle.pdc_row.specs.pdc_cfg.Config.{ConfigFields, IsConfig, bytes_of_sections}
@@ -63,6 +63,10 @@ row_fields output row = record {
   frac = (tag_of row.instant output.time_base output.rate).1;
   payload = row_payload row;
 }
+
+-- what stands in front of the blocks in it: the fields before the payload, and the own block
+abbrev pub front_of_row : Output → RowView → List ℕ
+front_of_row output row = header_of (row_fields output row) (length (row_payload row) + 16) ++ bytes_of_words (own_block row.start row.change)
 
 -- The bytes of a row on the wire.
 abbrev pub wire_of : Output → RowView → List ℕ

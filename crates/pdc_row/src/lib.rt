@@ -8,6 +8,7 @@
 //! the frame of a row, and that of a layout, is the one that the definitions spell.
 #![tactic(auto)]
 
+mod absent;
 mod block_copy;
 mod copied;
 mod due_row;
@@ -34,11 +35,12 @@ pub use offered::Offered;
 pub use output::{Nominal, Output};
 pub use output_laws::{layouts_are_frames, own_sections_tell_stamps, rows_are_frames};
 pub use pdc_block::{
-    Block, Body, Buffer, CHECK_LEN, CfgFault, ConfigView, Frame, FrameFault, HEADER_LEN, Kind,
-    MAX_SECTION_LEN, OVERHEAD, Section, SectionView, Shape, StreamId, append_words, begin_frame,
-    bodies_are_their_words, configurations_are_read_in_one_way, end_frame,
-    frames_are_read_in_one_way, frames_are_written_in_parts, instant, instant_is_nearest,
-    read_body, read_config, read_frame, read_word, words_are_cut, write_config, write_ends,
+    Block, Body, Buffer, CHECK_LEN, CfgFault, CheckedFront, ConfigView, FRONT_LEN, Frame,
+    FrameFault, FrontDifference, HEADER_LEN, Kind, MAX_SECTION_LEN, OVERHEAD, Section, SectionView,
+    Shape, StreamId, append_words, begin_frame, bodies_are_their_words,
+    configurations_are_read_in_one_way, end_frame, frames_are_read_in_one_way,
+    frames_are_written_in_parts, front_of, instant, instant_is_nearest, read_body, read_config,
+    read_frame, read_word, words_are_cut, write_config, write_ends, write_fields,
 };
 pub use present::is_present;
 pub use row_blocks::{MAX_BLOCKS_LEN, MAX_CUT, RowBlocks};

@@ -1,8 +1,10 @@
 //! The blocks of a row, as the frame that goes out has them.
 ghost use Rattle.std.specs.Prelude.{◌≡◌, ◌∷◌, ◌++◌, ◌<◌, ◌≤◌, [], length, map, nat_eq};
-ghost use Rattle.std.specs.Prelude.{slice_index_or, slice_set, sum_by, true};
+ghost use Rattle.std.specs.Prelude.{IfSome, false, slice_index_or, slice_set, sum_by, true};
+ghost use Rattle.std.specs.Option.{ForSome};
 ghost use Rattle.std.specs.Cmp.Lexicographic.{pointwise};
 ghost use Rattle.pdc_block.specs.Block.{body_len_of};
+ghost use Rattle.pdc_block.specs.pdc_frame.CheckWord.{check_word_of};
 ghost use Rattle.pdc_row.specs.CellView.{BlockView, absent_view, block_view, body_view};
 ghost use Rattle.pdc_row.specs.CellView.{is_present, same_block};
 ghost use Rattle.pdc_row.specs.KeptBlocks.{AreWhole, blocks_in, bytes_of, shapes_of};
@@ -11,10 +13,10 @@ ghost use Rattle.pdc_row.specs.declared.limits.TheConstants.{MAX_PMUS};
 use crate::limits::MAX_PMUS;
 use crate::offered::are_bytes;
 use crate::present::has_data;
-use crate::shapes::are_same;
+use crate::shapes::{are_each_same, are_same};
 use crate::{CopyFrom, Offered, Shapes};
 use arrayvec::ArrayVec;
-use pdc_block::{Block, Body, Shape, absent, bodies_are_their_words, cut};
+use pdc_block::{Block, Body, CheckedFront, Shape, absent, bodies_are_their_words, cut};
 use std::fmt;
 use std::fmt::{Debug, Formatter};
 use std::marker::Model;
@@ -39,11 +41,14 @@ pub struct RowBlocks {
     len: usize,
     /// Their bytes stand in front.
     bytes: [u8; MAX_BLOCKS_LEN],
+    /// The front and the check word of the frame in which they came, where they all came in one and that is known.
+    sent: Option<CheckedFront>,
 }
 
 impl Model for RowBlocks {
-    ghost use Rattle.std.specs.Prelude.{◌≡◌, ◌≤◌, List, length, sum_by, take};
+    ghost use Rattle.std.specs.Prelude.{◌≡◌, ◌≤◌, ◌++◌, IfSome, List, length, sum_by, take};
     ghost use Rattle.pdc_block.specs.Block.{body_len_of};
+    ghost use Rattle.pdc_block.specs.pdc_frame.CheckWord.{check_word_of};
     ghost use Rattle.pdc_row.specs.CellView.{BlockView};
     ghost use Rattle.pdc_row.specs.KeptBlocks.{AreStarts, blocks_in};
     ghost use Rattle.pdc_row.specs.declared.limits.TheConstants.{MAX_PMUS};
@@ -60,6 +65,8 @@ impl Model for RowBlocks {
       fits : blocks.len ≤ MAX_BLOCKS_LEN;
       size : blocks.len ≡ sum_by body_len_of (take blocks.count blocks.shapes);
       begun : AreStarts blocks.count blocks.shapes blocks.starts;
+      sent : IfSome blocks.sent (λ known. known.check ≡
+          check_word_of (known.bytes ++ take blocks.len blocks.bytes));
     } };
 }
 
@@ -74,6 +81,7 @@ impl RowBlocks {
             starts: [0; MAX_CUT],
             len: 0,
             bytes: [0; MAX_BLOCKS_LEN],
+            sent: None,
         }
     }
 
@@ -103,6 +111,7 @@ impl RowBlocks {
     {
         self.count = 0;
         self.len = 0;
+        self.sent = None;
     }
 
     /// Appends a block.
@@ -119,6 +128,7 @@ impl RowBlocks {
         self.shapes[self.count] = shape;
         self.count += 1;
         self.starts[self.count] = end as u16;
+        self.sent = None;
     }
 
     /// Appends the absent block of a shape. A call of its own, since most blocks are present.
@@ -140,6 +150,7 @@ impl RowBlocks {
             starts: self.starts,
             len: self.len,
             bytes: self.bytes,
+            sent: self.sent,
         }
     }
 
@@ -151,12 +162,16 @@ impl RowBlocks {
         &self.shapes[..self.count]
     }
 
-    /// Whether these are their shapes, as far as it is told at a look: where it is said, they are.
+    /// Whether these are their shapes.
     #[inline(always)]
     pub fn has_shapes(&self, shapes: &Shapes) -> bool
-        ensures { result ≡ true → shapes_of self.now ≡ shapes.now }
+        ensures same { result ≡ true → shapes_of self.now ≡ shapes.now }
+        ensures other { result ≡ false → shapes_of self.now ≡ shapes.now → ⊥ }
     {
-        self.count == shapes.count && are_same(&self.shapes, &shapes.each)
+        // At a look those are compared too that stand behind them, which may be others.
+        self.count == shapes.count
+            && (are_same(&self.shapes, &shapes.each)
+                || are_each_same(self.shapes(), shapes.as_slice()))
     }
 
     /// The block at a place, lent.
@@ -204,6 +219,7 @@ impl RowBlocks {
         ensures { self.new ≡ slice_set self.old place (B.view block.now) }
     {
         let _ = &self.count;
+        self.sent = None;
         if self.shapes[place] == block.shape() {
             let start = usize::from(self.starts[place]);
             let end = usize::from(self.starts[place + 1]);
@@ -231,15 +247,6 @@ impl RowBlocks {
         *self = blocks;
     }
 
-    /// Puts the absent block of a shape to a place. A call of its own, since most blocks are present.
-    #[inline(never)]
-    pub fn put_absent(&mut self, place: usize, shape: Shape)
-        requires { place < length self.old }
-        ensures { self.new ≡ slice_set self.old place (absent_view shape) }
-    {
-        self.put(place, &absent(shape));
-    }
-
     /// Gives these blocks the shapes of others, of which there may be another number. What words they have is left open: they are to be
     /// written over.
     pub fn lay_out_as(&mut self, other: &RowBlocks)
@@ -249,15 +256,32 @@ impl RowBlocks {
         self.shapes = other.shapes;
         self.starts = other.starts;
         self.len = other.len;
+        self.sent = None;
     }
 
-    /// Writes these bytes, which are as many, over those of the blocks, of which each keeps its shape.
+    /// Writes these bytes, which are as many, over those of the blocks, of which each keeps its shape. Where the front and the check word are
+    /// known of the frame in which they came, they are kept with them.
     #[inline(always)]
-    pub fn write_over(&mut self, bytes: &[u8])
-        requires { length bytes.now ≡ sum_by body_len_of (shapes_of self.old) }
+    pub fn write_over(&mut self, bytes: &[u8], sent: Option<&CheckedFront>)
+        requires size { length bytes.now ≡ sum_by body_len_of (shapes_of self.old) }
+        requires sent { ForSome sent (λ known. known.now.check ≡
+            check_word_of (known.now.bytes ++ bytes.now)) }
         ensures { self.new ≡ blocks_in (shapes_of self.old) bytes.now }
     {
         self.bytes[..self.len].copy_from_slice(bytes);
+        self.sent = sent.copied();
+    }
+
+    /// The front and the check word of the frame in which they came, where they all came in one and that is known: so the check word follows of
+    /// any frame that has them behind another front.
+    #[inline(always)]
+    pub fn sent(&self) -> Option<&CheckedFront>
+        ensures { IfSome result (λ known. known.now.check ≡
+            check_word_of (known.now.bytes ++ bytes_of self.now)) }
+    {
+        bodies_are_their_words();
+        are_bytes(&self.bytes[..self.len]);
+        self.sent.as_ref()
     }
 
     /// Whether these are the bytes of the blocks: then they are those that the bytes write in their shapes.
@@ -320,6 +344,7 @@ impl CopyFrom for RowBlocks {
         self.shapes = other.shapes;
         self.starts = other.starts;
         self.len = other.len;
+        self.sent = other.sent;
         self.bytes[..other.len].copy_from_slice(&other.bytes[..other.len]);
     }
 }

@@ -1,6 +1,7 @@
 //! The data frame of a closed row (C37.118.2-2011, 6.3).
 ghost use Rattle.std.specs.Prelude.{◌≡◌, ◌+◌, ◌*◌, ◌<◌, ◌≤◌, ◌++◌, [], length, IsOk};
 ghost use Rattle.std.specs.Prelude.{OnOk, OnErr};
+ghost use Rattle.pdc_row.specs.pdc_frame.CheckWord.{check_word_of};
 ghost use Rattle.pdc_row.specs.pdc_frame.Frame.{IsFrame, fields_of};
 ghost use Rattle.pdc_row.specs.pdc_frame.declared.frame.Kind.TheVariants.{DataFrame};
 ghost use Rattle.pdc_row.specs.pdc_block.Block.{bytes_of_words};
@@ -8,15 +9,16 @@ ghost use Rattle.pdc_row.specs.KeptBlocks.{bytes_of};
 ghost use Rattle.pdc_row.specs.pdc_frame.declared.tag_limits.TheConstants.{SECONDS};
 ghost use Rattle.pdc_row.specs.pdc_frame.Tag.{tag_of};
 ghost use Rattle.pdc_row.specs.RowView.{row_view};
-ghost use Rattle.pdc_row.specs.Layout.{own_block, row_payload, row_fields, wire_of};
+ghost use Rattle.pdc_row.specs.Layout.{front_of_row, own_block, row_payload, row_fields, wire_of};
 
 use crate::due_row::DueRow;
 use crate::output::Output;
 use crate::stamp::stamp_words;
 use arrayvec::ArrayVec;
 use pdc_block::{
-    Buffer, CHECK_LEN, Frame, HEADER_LEN, Kind, OVERHEAD, append_words, begin_frame, end_frame,
-    frames_are_written_in_parts, tag_of, write_ends,
+    Buffer, CHECK_LEN, CheckedFront, FRONT_LEN, Frame, FrontDifference, HEADER_LEN, Kind, OVERHEAD,
+    append_words, begin_frame, end_frame, frames_are_written_in_parts, tag_of, write_ends,
+    write_fields,
 };
 use std::alloc::AllocError;
 
@@ -160,6 +162,43 @@ fn write_over(output: &Output, row: &DueRow, bytes: &mut [u8])
     write_ends(&head, payload, front, back);
 }
 
+/// Writes what stands before the blocks in the data frame of the row over these bytes: the fields, and the own block.
+#[inline(always)]
+fn write_front(output: &Output, row: &DueRow, front: &mut [u8; FRONT_LEN])
+    requires { row.now.instant < SECONDS * output.now.rate }
+    ensures { front.new ≡ front_of_row output.now (row_view row.now) }
+{
+    let head = head_of(output, row);
+    let (fields, own) = front.split_at_mut(HEADER_LEN);
+    write_fields(&head, payload_len(row), fields);
+    write_own_block(row.start, row.change, own);
+}
+
+/// Writes the data frame of the row over these bytes, where the front and the check word are known of a frame with the same blocks.
+#[inline(always)]
+fn write_behind(
+    output: &Output,
+    row: &DueRow,
+    known: &CheckedFront,
+    bytes: &mut [u8],
+    difference: &mut FrontDifference,
+)
+    requires instant { row.now.instant < SECONDS * output.now.rate }
+    requires size { length bytes.old ≡ OWN_BLOCK_LEN + length (bytes_of row.now.blocks) + OVERHEAD }
+    requires known { known.now.check ≡
+        check_word_of (known.now.bytes ++ bytes_of row.now.blocks) }
+    ensures { bytes.new ≡ wire_of output.now (row_view row.now) }
+{
+    let Some((front, rest)) = bytes.split_first_chunk_mut::<FRONT_LEN>() else {
+        return;
+    };
+    let (blocks, back) = rest.split_at_mut(row.blocks.bytes().len());
+    write_front(output, row, front);
+    blocks.copy_from_slice(row.blocks.bytes());
+    let check = difference.check_behind(known, front, blocks);
+    back.copy_from_slice(&check.to_be_bytes());
+}
+
 /// Makes them so many bytes, which are to be written over. Seldom, and so a call of its own.
 #[inline(never)]
 fn resize(bytes: &mut ArrayVec<u8, MAX_ROW_LEN>, len: usize)
@@ -171,8 +210,14 @@ fn resize(bytes: &mut ArrayVec<u8, MAX_ROW_LEN>, len: usize)
 }
 
 /// Makes these bytes the data frame of the row, as [`append_row`] appends it. Where they are as many as those of the frame, each is written
-/// over once. It takes no memory.
-pub fn write_row(output: &Output, row: &DueRow, bytes: &mut ArrayVec<u8, MAX_ROW_LEN>)
+/// over once. Where its blocks came in one frame whose check word is known, that of this frame follows from it, and from what the fronts of
+/// both differ in: `difference` is kept from row to row. It takes no memory.
+pub fn write_row(
+    output: &Output,
+    row: &DueRow,
+    bytes: &mut ArrayVec<u8, MAX_ROW_LEN>,
+    difference: &mut FrontDifference,
+)
     requires { row.now.instant < SECONDS * output.now.rate }
     ensures { bytes.new.items ≡ wire_of output.now (row_view row.now) }
 {
@@ -180,5 +225,8 @@ pub fn write_row(output: &Output, row: &DueRow, bytes: &mut ArrayVec<u8, MAX_ROW
     if bytes.len() != len {
         resize(bytes, len);
     }
-    write_over(output, row, bytes.as_mut_slice());
+    match row.blocks.sent() {
+        Some(known) => write_behind(output, row, known, bytes.as_mut_slice(), difference),
+        None => write_over(output, row, bytes.as_mut_slice()),
+    }
 }

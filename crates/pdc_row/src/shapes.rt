@@ -1,5 +1,5 @@
 //! Shapes that are compared all at once.
-ghost use Rattle.std.specs.Prelude.{◌≡◌, ◌++◌, ◌∷◌, ◌<◌, [], length, true};
+ghost use Rattle.std.specs.Prelude.{◌≡◌, ◌++◌, ◌∷◌, ◌<◌, [], false, length, true};
 ghost use Rattle.pdc_row.specs.declared.limits.TheConstants.{MAX_PMUS};
 
 use crate::limits::MAX_PMUS;
@@ -61,12 +61,22 @@ impl Shapes {
     }
 
     /// The same shapes again.
-    pub fn copy(&self) -> Shapes
+    fn copy(&self) -> Shapes
         ensures { result ≡ self.now }
     {
         Shapes {
             count: self.count,
             each: self.each,
+        }
+    }
+
+    /// The same shapes again, or none.
+    pub fn copy_of(shapes: &Option<Shapes>) -> Option<Shapes>
+        ensures { result ≡ shapes.now }
+    {
+        match shapes {
+            Some(shapes) => Some(shapes.copy()),
+            None => None,
         }
     }
 }
@@ -76,6 +86,15 @@ impl Debug for Shapes {
     fn fmt<W: fmt::Write>(&self, f: &mut Formatter<W>) -> fmt::Result {
         self.as_slice().fmt(f)
     }
+}
+
+/// Whether two lists of shapes are the same, one after the other. A call of its own, since it is seldom.
+#[inline(never)]
+pub(crate) fn are_each_same(some: &[Shape], others: &[Shape]) -> bool
+    ensures same { result ≡ true → some.now ≡ others.now }
+    ensures other { result ≡ false → some.now ≡ others.now → ⊥ }
+{
+    some == others
 }
 
 /// Whether two lists of sixteen shapes are the same. It looks at all, so that the processor compares many at once.

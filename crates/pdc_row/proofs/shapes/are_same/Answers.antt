@@ -1,5 +1,5 @@
-use Rattle.std.proofs.Common.{◌≡◌, ◌∙◌, ◌<◌, ◌||◌, Bool, List, arith, eqb, false, get_or, length, not, refl, sym, true}
-use Rattle.std.proofs.lemmas.Bool.{eqb-true, not-false, or_parts}
+use Rattle.std.proofs.Common.{◌≡◌, ◌∙◌, ◌<◌, ◌||◌, Bool, List, arith, eqb, false, get_or, length, not, sym}
+use Rattle.std.proofs.lemmas.Bool.{eqb-true, not-false, not-true, or_parts}
 use Rattle.std.proofs.lemmas.List.{get_or_default, take_all, take_more_same}
 use Rattle.pdc_block.proofs.pdc_cfg.Shapes.{same_shape}
 use Rattle.pdc_block.specs.pdc_cfg.declared.shape.Shape.{Shape}
@@ -17,10 +17,6 @@ alike before one other none =
           (eqb-true one.digitals other.digitals (not-false (eqb one.digitals other.digitals) third.1)),
     )
 
-from_not : (b : Bool) → not b ≡ true → b ≡ false
-from_not true e = sym e
-from_not false e = refl
-
 pub loop-place-preserved : goal.loop-place-preserved
 loop-place-preserved c =
     λ none.
@@ -36,5 +32,5 @@ pub returns : goal.returns
 returns c =
     λ e.
     sym (take_all c.loop-place.place c.args.some.now (omega (arith, c.told-some, c.loop-place-test.false)))
-    ∙ c.loop-place.invariant (from_not c.loop-place.differ e)
+    ∙ c.loop-place.invariant (not-true c.loop-place.differ e)
     ∙ take_all c.loop-place.place c.args.others.now (omega (arith, c.told-others, c.loop-place-test.false))

@@ -1,36 +1,37 @@
 use Rattle.std.proofs.Common.{◌∙◌, ap, arith, length, true}
+use Rattle.std.proofs.lemmas.Bool.{not-true}
 use Rattle.std.proofs.lemmas.List.{length-replicate}
 use Rattle.pdc_row.specs.KeptBlocks.{shapes_of}
-use Rattle.pdc_open_row.proofs.WholeFrames.{as_many, denied, laid_len, whole_first_alone, whole_first_twin, with_first}
+use Rattle.pdc_open_row.proofs.WholeFrames.{as_many, laid_len, whole_first_alone, whole_first_twin, with_first}
 use Rattle.pdc_open_row.proofs.columns.Columns.put_whole_first.Goals as goal
 
-pub write_over-requires : goal.write_over-requires
-write_over-requires g c = c.requires.size ∙ laid_len g.P.Part.column_of g.P.Part.shape_of c.args.parts.now (shapes_of c.self.inside.first) 0 (c.fits.ensures c.if-not-fits.false)
+pub write_over-requires-clause-size : goal.write_over-requires-clause-size
+write_over-requires-clause-size g c = c.args.cut.now.whole ∙ laid_len g.P.Part.column_of g.P.Part.shape_of c.args.cut.now.parts.now (shapes_of c.self.inside.first) 0 (c.fits.ensures c.if-not-fits.false)
 
-pub write_over-requires-2 : goal.write_over-requires-2
-write_over-requires-2 g c = c.requires.size ∙ laid_len g.P.Part.column_of g.P.Part.shape_of c.args.parts.now (shapes_of c.self.inside.first) 0 (c.fits.ensures c.if-not-fits.false)
+pub write_over-requires-2-clause-size : goal.write_over-requires-2-clause-size
+write_over-requires-2-clause-size g c = c.args.cut.now.whole ∙ laid_len g.P.Part.column_of g.P.Part.shape_of c.args.cut.now.parts.now (shapes_of c.self.inside.first) 0 (c.fits.ensures c.if-not-fits.false)
 
 pub invariant_of-self : goal.invariant_of-self
 invariant_of-self g c = record {
-  first = omega (arith, ap length c.write_over.ensures, as_many c.self.inside.first c.args.bytes.now (length c.self.inside.held) c.self.invariant.first, ap length c.fill.ensures, length-replicate (length c.self.inside.held) (with_first c.args.quality c.in-Some.held));
+  first = omega (arith, ap length c.write_over.ensures, as_many c.self.inside.first c.args.cut.now.bytes.now (length c.self.inside.held) c.self.invariant.first, ap length c.fill.ensures, length-replicate (length c.self.inside.held) (with_first c.args.quality c.in-Some.held));
   second = omega (arith, c.self.invariant.second, ap length c.fill.ensures, length-replicate (length c.self.inside.held) (with_first c.args.quality c.in-Some.held));
 }
 
 pub invariant_of-self-2 : goal.invariant_of-self-2
 invariant_of-self-2 g c = record {
-  first = omega (arith, ap length c.write_over-2.ensures, as_many c.self.inside.first c.args.bytes.now (length c.self.inside.held) c.self.invariant.first, ap length c.fill-2.ensures, length-replicate (length c.self.inside.held) (record (with_first c.args.quality c.in-Some.held) { alike = true }));
+  first = omega (arith, ap length c.write_over-2.ensures, as_many c.self.inside.first c.args.cut.now.bytes.now (length c.self.inside.held) c.self.invariant.first, ap length c.fill-2.ensures, length-replicate (length c.self.inside.held) (record (with_first c.args.quality c.in-Some.held) { alike = true }));
   second = omega (arith, c.self.invariant.second, ap length c.fill-2.ensures, length-replicate (length c.self.inside.held) (record (with_first c.args.quality c.in-Some.held) { alike = true }));
 }
 
 pub returns-then-not-held-clause-whole : goal.returns-then-not-held-clause-whole
 returns-then-not-held-clause-whole g c = λ _.
-    whole_first_alone g.P.Part.column_of g.P.Part.shape_of c.args.parts.now c.args.quality c.args.bytes.now c.self.inside.held c.fill.new.self c.in-Some.held c.self.inside.first c.self.inside.second c.write_over.new.self c.args.self.now
+    whole_first_alone g.P.Part.column_of g.P.Part.shape_of c.args.cut.now.parts.now c.args.quality c.args.cut.now.bytes.now c.self.inside.held c.fill.new.self c.in-Some.held c.self.inside.first c.self.inside.second c.write_over.new.self c.args.self.now
     c.words_are_cut.ensures (c.fits.ensures c.if-not-fits.false)
-    c.self.view_is c.in-Some.ensures c.self.invariant.first c.self.invariant.second (denied c.in-Some.held.second c.if-not-held.true) c.write_over.ensures c.fill.ensures
+    c.self.view_is c.in-Some.ensures c.self.invariant.first c.self.invariant.second (not-true c.in-Some.held.second c.if-not-held.true) c.write_over.ensures c.fill.ensures
 
 pub returns-clause-whole : goal.returns-clause-whole
 returns-clause-whole g c = λ _.
-    whole_first_twin g.P.Part.column_of g.P.Part.shape_of c.args.parts.now c.args.quality c.args.bytes.now c.self.inside.held c.fill-2.new.self c.in-Some.held c.self.inside.first c.self.inside.second c.write_over-2.new.self c.args.self.now
+    whole_first_twin g.P.Part.column_of g.P.Part.shape_of c.args.cut.now.parts.now c.args.quality c.args.cut.now.bytes.now c.self.inside.held c.fill-2.new.self c.in-Some.held c.self.inside.first c.self.inside.second c.write_over-2.new.self c.args.self.now
     c.words_are_cut.ensures (c.fits.ensures c.if-not-fits.false)
     (c.fits-else-held.ensures c.if-not-fits-2.false)
     c.self.view_is c.in-Some.ensures c.self.invariant.first c.self.invariant.second c.if-held.false (c.has_bytes.ensures.same c.if-not-has_bytes.false) c.write_over-2.ensures c.fill-2.ensures

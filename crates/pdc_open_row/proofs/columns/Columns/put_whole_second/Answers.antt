@@ -7,21 +7,21 @@ use Rattle.pdc_open_row.proofs.columns.Columns.put_whole_second.Goals as goal
 
 pub returns-then-has_bytes-clause-whole : goal.returns-then-has_bytes-clause-whole
 returns-then-has_bytes-clause-whole g c = λ _.
-    whole_second_twin g.P.Part.column_of g.P.Part.shape_of c.args.parts.now c.args.lane c.args.quality c.args.bytes.now c.self.inside.held c.fill.new.self c.in-Some.held c.self.inside.first c.self.inside.second c.args.self.now
-    (ne_eqb c.args.lane 0 (λ e. omega (arith, e, c.requires.lane))) c.words_are_cut.ensures (c.fits.ensures c.if-fits.true)
+    whole_second_twin g.P.Part.column_of g.P.Part.shape_of c.args.cut.now.parts.now c.args.lane c.args.quality c.args.cut.now.bytes.now c.self.inside.held c.fill.new.self c.in-Some.held c.self.inside.first c.self.inside.second c.args.self.now
+    (ne_eqb c.args.lane 0 (λ e. omega (arith, e, c.requires))) c.words_are_cut.ensures (c.fits.ensures c.if-fits.true)
     c.self.view_is c.in-Some.ensures c.self.invariant.first c.self.invariant.second (c.has_bytes.ensures.same c.if-has_bytes.true) c.fill.ensures
 
-pub write_over-requires : goal.write_over-requires
-write_over-requires g c = c.requires.size ∙ laid_len g.P.Part.column_of g.P.Part.shape_of c.args.parts.now (shapes_of c.self.inside.second) 0 (c.fits-2.ensures c.if-not-fits.false)
+pub write_over-requires-clause-size : goal.write_over-requires-clause-size
+write_over-requires-clause-size g c = c.args.cut.now.whole ∙ laid_len g.P.Part.column_of g.P.Part.shape_of c.args.cut.now.parts.now (shapes_of c.self.inside.second) 0 (c.fits-2.ensures c.if-not-fits.false)
 
 pub invariant_of-self-2 : goal.invariant_of-self-2
 invariant_of-self-2 g c = record {
   first = omega (arith, c.self.invariant.first, ap length c.fill-2.ensures, length-replicate (length c.self.inside.held) (with_second c.args.quality false c.in-Some.held));
-  second = omega (arith, ap length c.write_over.ensures, as_many c.self.inside.second c.args.bytes.now (length c.self.inside.held) c.self.invariant.second, ap length c.fill-2.ensures, length-replicate (length c.self.inside.held) (with_second c.args.quality false c.in-Some.held));
+  second = omega (arith, ap length c.write_over.ensures, as_many c.self.inside.second c.args.cut.now.bytes.now (length c.self.inside.held) c.self.invariant.second, ap length c.fill-2.ensures, length-replicate (length c.self.inside.held) (with_second c.args.quality false c.in-Some.held));
 }
 
 pub returns-clause-whole : goal.returns-clause-whole
 returns-clause-whole g c = λ _.
-    whole_second_own g.P.Part.column_of g.P.Part.shape_of c.args.parts.now c.args.lane c.args.quality c.args.bytes.now c.self.inside.held c.fill-2.new.self c.in-Some.held c.self.inside.first c.self.inside.second c.write_over.new.self c.args.self.now
-    (ne_eqb c.args.lane 0 (λ e. omega (arith, e, c.requires.lane))) c.words_are_cut.ensures (c.fits-2.ensures c.if-not-fits.false)
+    whole_second_own g.P.Part.column_of g.P.Part.shape_of c.args.cut.now.parts.now c.args.lane c.args.quality c.args.cut.now.bytes.now c.self.inside.held c.fill-2.new.self c.in-Some.held c.self.inside.first c.self.inside.second c.write_over.new.self c.args.self.now
+    (ne_eqb c.args.lane 0 (λ e. omega (arith, e, c.requires))) c.words_are_cut.ensures (c.fits-2.ensures c.if-not-fits.false)
     c.self.view_is c.in-Some.ensures c.self.invariant.first c.self.invariant.second c.write_over.ensures c.fill-2.ensures

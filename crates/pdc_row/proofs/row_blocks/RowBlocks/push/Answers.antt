@@ -46,6 +46,7 @@ invariant_of-self g c =
       begun =
           begun_more i.count i.len c.word_count.result i.shapes i.starts c.shape-shape.result (omega (arith, few, c.self.invariant.places)) (omega (arith, few, c.self.told)) c.self.invariant.size c.word_count.ensures.value
           c.self.invariant.begun;
+      sent = tt;
     }
 
 pub returns : goal.returns

@@ -2,7 +2,7 @@
 use Rattle.std.proofs.Common.{◌≡◌, ◌≤◌, ◌∙◌, ◌+◌, ◌-◌, ◌*◌, ◌/◌, ℕ, zero, suc, List, [], ◌∷◌, ◌++◌, ap, arith, drop, length, refl, replicate, sym, take}
 use Rattle.std.proofs.Math.Seq.{take-append-add}
 use Rattle.std.proofs.lemmas.List.{drop-replicate, replicate-append-replicate, take-replicate}
-use Rattle.pdc_row.specs.pdc_block.Block.{words_in}
+use Rattle.pdc_block.specs.Block.{words_in}
 
 -- what stands behind whole words
 words_behind : (n : ℕ) (xs ys : List ℕ) → length xs ≡ n + n → words_in (xs ++ ys) ≡ words_in xs ++ words_in ys
