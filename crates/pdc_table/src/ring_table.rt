@@ -11,8 +11,7 @@ use crate::{
 };
 use arrayvec::ArrayVec;
 use pdc_open_row::{
-    Block, Blocks, Body, Cut, DueRow, Listed, Part, Places, Shapes, copy_items, falses,
-    numbers_rise,
+    Block, Blocks, Body, Cut, DueRow, Listed, Part, Places, copy_items, falses, numbers_rise,
 };
 use std::alloc::{AllocError, Global};
 use std::marker::Model;
@@ -155,13 +154,10 @@ impl Table for RingTable {
         &mut self,
         stream: usize,
         instant: u64,
-        parts: &[P],
-        laid: Option<&Shapes>,
-        bytes: &[u8],
+        cut: &Cut<'_, P>,
         quality: u8,
     ) -> PutOutcome {
-        let blocks = Cut { parts, laid, bytes };
-        self.offer(stream, instant, &blocks, quality)
+        self.offer(stream, instant, cut, quality)
     }
 
     fn require(&mut self, stream: usize, is_required: bool) {

@@ -9,7 +9,7 @@ ghost use Rattle.pdc_table.specs.Content.{Content, HasSizesOf, HaveLayoutShapes,
 ghost use Rattle.pdc_table.specs.Content.{IsPut, new_content, streams_of};
 ghost use Rattle.pdc_table.specs.KeptRow.{popped_into};
 ghost use Rattle.pdc_open_row.specs.Layout.{layout_view};
-ghost use Rattle.pdc_open_row.specs.Parts.{cut_cells, laid_out, parts_len};
+ghost use Rattle.pdc_open_row.specs.Parts.{cut_cells};
 ghost use Rattle.pdc_table.specs.Steps.{after_drop_column, after_drop_stream, after_pop};
 ghost use Rattle.pdc_table.specs.Steps.{after_put, after_require, after_tick, closed_by};
 ghost use Rattle.pdc_table.specs.Steps.{disagreements_after, next_answer, pop_answer, put_answer};
@@ -20,7 +20,7 @@ use crate::{
     MAX_COLUMNS, MAX_LANES, MAX_WINDOW, MIN_WINDOW, PutOutcome, RowLayout, WaitRule, cut_bodies,
     new_room,
 };
-use pdc_open_row::{Block, Body, DueRow, Part, Shapes};
+use pdc_open_row::{Block, Body, Cut, DueRow, Part};
 use std::alloc::{AllocError, Global};
 
 /// A table that aligns the streams of a concentrator by instant.
@@ -103,35 +103,31 @@ pub trait Table: Drop {
         ensures memory { memory self.new ≡ memory self.old }
         ensures well_formed { IsContent (content self.new) };
 
-    /// As `put_bodies`, with blocks that lie one after the other in these bytes, of which each part tells the column and the shape. Where the
-    /// parts are one for each column, their shapes are told too (`laid_out`).
+    /// As `put_bodies`, with blocks that lie one after the other in the payload of a frame.
     fn put_parts<P: Part>(
         &mut self,
         stream: usize,
         instant: u64,
-        parts: &[P],
-        laid: Option<&Shapes>,
-        bytes: &[u8],
+        cut: &Cut<'_, P>,
         quality: u8,
     ) -> PutOutcome
         requires put { IsPut (content self.old) stream
-            (cut_cells P.column_of P.shape_of parts.now quality (words_in bytes.now)) }
-        requires size { length bytes.now ≡ parts_len P.shape_of parts.now }
-        requires few { length parts.now ≤ MAX_COLUMNS }
-        requires laid { option_map (λ shapes. shapes.now) laid ≡
-            laid_out P.column_of P.shape_of parts.now }
+            (cut_cells P.column_of P.shape_of cut.now.parts.now quality
+            (words_in cut.now.bytes.now)) }
+        requires few { length cut.now.parts.now ≤ MAX_COLUMNS }
         ensures answer { result ≡ put_answer (content self.old) stream instant
-            (cut_cells P.column_of P.shape_of parts.now quality (words_in bytes.now)) }
+            (cut_cells P.column_of P.shape_of cut.now.parts.now quality
+            (words_in cut.now.bytes.now)) }
         ensures content { content self.new ≡ after_put (content self.old) stream instant
-            (cut_cells P.column_of P.shape_of parts.now quality (words_in bytes.now)) }
+            (cut_cells P.column_of P.shape_of cut.now.parts.now quality
+            (words_in cut.now.bytes.now)) }
         ensures disagreements { disagreements self.new ≡ disagreements self.old }
         ensures sizes { HasSizesOf (content self.old) (content self.new) }
         ensures memory { memory self.new ≡ memory self.old }
         ensures well_formed { IsContent (content self.new) }
     {
-        let _ = laid;
         let mut bodies = new_room();
-        let count = cut_bodies(parts, bytes, &mut bodies, 0);
+        let count = cut_bodies(cut.parts, cut.bytes, &mut bodies, 0);
         self.put_bodies(stream, instant, &bodies[..count], quality)
     }
 
