@@ -9,7 +9,7 @@ ghost use Rattle.pdc_arrival.specs.pdc_row.RowView.{RowView, row_view};
 ghost use Rattle.pdc_table.specs.Content.{IsPut};
 ghost use Rattle.pdc_table.specs.KeptRow.{popped_into};
 ghost use Rattle.pdc_table.specs.pdc_open_row.Layout.{layout_view};
-ghost use Rattle.pdc_table.specs.pdc_open_row.Parts.{cut_cells, laid_out, parts_len};
+ghost use Rattle.pdc_table.specs.pdc_open_row.Parts.{cut_cells};
 ghost use Rattle.pdc_table.specs.pdc_open_row.Taking.{body_cells_of};
 ghost use Rattle.pdc_arrival.specs.Views.{section_part};
 ghost use Rattle.pdc_arrival.specs.declared.arrival.ColumnSection.{ColumnSection as ColumnSectionData};
@@ -31,7 +31,7 @@ use crate::closing_laws::{rows_are_those, tick_is_tick};
 use crate::state_laws::{answers_agree, others_leave_it, take_is_take};
 use crate::{Alignment, Plan, Ticked};
 use pdc_arrival::{Body, ColumnSection, MAX_PMUS, Outcome};
-use pdc_table::{DueRow, Part, RowLayout, Shapes, Table};
+use pdc_table::{Cut, DueRow, Part, RowLayout, Table};
 use std::alloc::{AllocError, Global};
 
 impl<T: Table> Alignment<T> {
@@ -85,40 +85,36 @@ impl<T: Table> Alignment<T> {
         self.offer(stream, instant, cells, quality)
     }
 
-    /// The same, with blocks that lie one after the other in these bytes of the payload: each part tells the column and the shape of
-    /// one. Where the parts are one for each column, their shapes are told too (`laid_out`).
+    /// The same, with blocks that lie one after the other in the payload of a frame.
     pub fn put_parts<P: Part>(
         &mut self,
         stream: usize,
         instant: u64,
-        parts: &[P],
-        laid: Option<&Shapes>,
-        bytes: &[u8],
+        cut: &Cut<'_, P>,
         quality: u8,
     ) -> Outcome
         requires put { IsPut self.old.state.content stream
-            (cut_cells P.column_of P.shape_of parts.now quality (words_in bytes.now)) }
-        requires size { length bytes.now ≡ parts_len P.shape_of parts.now }
-        requires few { length parts.now ≤ MAX_PMUS }
-        requires laid { option_map (λ shapes. shapes.now) laid ≡
-            laid_out P.column_of P.shape_of parts.now }
+            (cut_cells P.column_of P.shape_of cut.now.parts.now quality
+            (words_in cut.now.bytes.now)) }
+        requires few { length cut.now.parts.now ≤ MAX_PMUS }
         ensures answer { (g : Given) (E : List Entry) → StandsFor g E self.old.state →
             result ≡ outcome_in_time g E stream instant
-            (cut_cells P.column_of P.shape_of parts.now quality (words_in bytes.now)) }
+            (cut_cells P.column_of P.shape_of cut.now.parts.now quality
+            (words_in cut.now.bytes.now)) }
         ensures stands { (g : Given) (E : List Entry) (datagram payload : List ℕ) →
             StandsFor g E self.old.state →
             IsRun g (Arrive stream datagram (Data instant quality payload)
-            (with_cells result (cut_cells P.column_of P.shape_of parts.now quality
-            (words_in bytes.now))) ∷ E) →
+            (with_cells result (cut_cells P.column_of P.shape_of cut.now.parts.now quality
+            (words_in cut.now.bytes.now))) ∷ E) →
             StandsFor g (Arrive stream datagram (Data instant quality payload)
-            (with_cells result (cut_cells P.column_of P.shape_of parts.now quality
-            (words_in bytes.now))) ∷ E) self.new.state }
+            (with_cells result (cut_cells P.column_of P.shape_of cut.now.parts.now quality
+            (words_in cut.now.bytes.now))) ∷ E) self.new.state }
         ensures unchanged { Unchanged self.old self.new }
     {
         answers_agree();
         take_is_take();
         others_leave_it();
-        self.offer_parts(stream, instant, parts, laid, bytes, quality)
+        self.offer_parts(stream, instant, cut, quality)
     }
 
     /// Holds the sections of a layout that is a candidate, each in its column: of the greatest count, the first of that count.

@@ -1,8 +1,8 @@
 //! How data is offered to the table of an alignment.
-ghost use Rattle.std.specs.Prelude.{◌≡◌, ◌≤◌, length, option_map};
+ghost use Rattle.std.specs.Prelude.{◌≡◌, ◌≤◌, length};
 ghost use Rattle.pdc_arrival.specs.pdc_block.Block.{words_in};
 ghost use Rattle.pdc_table.specs.Content.{IsPut};
-ghost use Rattle.pdc_table.specs.pdc_open_row.Parts.{cut_cells, laid_out, parts_len};
+ghost use Rattle.pdc_table.specs.pdc_open_row.Parts.{cut_cells};
 ghost use Rattle.pdc_table.specs.pdc_open_row.Taking.{body_cells_of};
 ghost use Rattle.pdc_align.specs.Align.{Unchanged};
 ghost use Rattle.pdc_align.specs.Calls.{after_data, put_outcome};
@@ -10,7 +10,7 @@ ghost use Rattle.pdc_align.specs.Follows.{told_by};
 
 use crate::Alignment;
 use pdc_arrival::{Body, MAX_PMUS, Outcome, Refusal};
-use pdc_table::{Part, PutOutcome, Shapes, Table};
+use pdc_table::{Cut, Part, PutOutcome, Table};
 
 /// What a put into the table is answered, as a concentrator tells it.
 fn outcome_of(outcome: PutOutcome) -> Outcome
@@ -50,27 +50,25 @@ impl<T: Table> Alignment<T> {
         outcome_of(self.table.put_bodies(stream, instant, cells, quality))
     }
 
-    /// The same, with blocks that lie one after the other in these bytes, of which each part tells the column and the shape.
+    /// The same, with blocks that lie one after the other in the payload of a frame.
     pub(crate) fn offer_parts<P: Part>(
         &mut self,
         stream: usize,
         instant: u64,
-        parts: &[P],
-        laid: Option<&Shapes>,
-        bytes: &[u8],
+        cut: &Cut<'_, P>,
         quality: u8,
     ) -> Outcome
         requires put { IsPut self.old.state.content stream
-            (cut_cells P.column_of P.shape_of parts.now quality (words_in bytes.now)) }
-        requires size { length bytes.now ≡ parts_len P.shape_of parts.now }
-        requires few { length parts.now ≤ MAX_PMUS }
-        requires laid { option_map (λ shapes. shapes.now) laid ≡
-            laid_out P.column_of P.shape_of parts.now }
+            (cut_cells P.column_of P.shape_of cut.now.parts.now quality
+            (words_in cut.now.bytes.now)) }
+        requires few { length cut.now.parts.now ≤ MAX_PMUS }
         ensures answer { result ≡ put_outcome self.old.state stream instant
-            (cut_cells P.column_of P.shape_of parts.now quality (words_in bytes.now)) }
+            (cut_cells P.column_of P.shape_of cut.now.parts.now quality
+            (words_in cut.now.bytes.now)) }
         ensures state { self.new.state ≡
             after_data self.old.state stream instant
-            (cut_cells P.column_of P.shape_of parts.now quality (words_in bytes.now)) }
+            (cut_cells P.column_of P.shape_of cut.now.parts.now quality
+            (words_in cut.now.bytes.now)) }
         ensures unchanged { Unchanged self.old self.new }
     {
         if instant <= self.table.last() {
@@ -79,9 +77,6 @@ impl<T: Table> Alignment<T> {
         if instant.saturating_sub(self.current) > self.ahead {
             return Outcome::Refused(Refusal::Ahead);
         }
-        outcome_of(
-            self.table
-                .put_parts(stream, instant, parts, laid, bytes, quality),
-        )
+        outcome_of(self.table.put_parts(stream, instant, cut, quality))
     }
 }
