@@ -2,7 +2,7 @@
 use Rattle.std.specs.Prelude.{◌≡◌, ℕ, Bool, true, false, List, Some, nat_lt, option_map}
 pub use Rattle.pdc_align.specs.Align.{ticked_of}
 pub use Rattle.pdc_align.specs.Popped.{popped_after}
-use Rattle.pdc_align.specs.pdc_life.Answer.{IsReadStep, ReadStep, ToArrive, ToPop, ToTick}
+use Rattle.pdc_align.specs.pdc_life.Answer.{ReadStep, ToArrive, ToPop, ToTick}
 use Rattle.pdc_align.specs.pdc_life.Life.{Arrive, Entry, Pop, Tick, changes}
 use Rattle.pdc_align.specs.pdc_life.Arrival.{Arrival}
 use Rattle.pdc_align.specs.pdc_row.RowView.{row_view}

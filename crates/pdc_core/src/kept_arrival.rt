@@ -1,6 +1,7 @@
 //! What arrived, with its bytes kept: it can be handed on where what was read would not live.
 ghost use Rattle.std.specs.Prelude.{◌≡◌, ◌≤◌, [], ◌∷◌, IfOk, IsOk, None, OnErr, OnOk, length, map, true};
-ghost use Rattle.pdc_core.specs.KeptArrival.{kept_part, taken_view, takes_no_memory, wanted_of};
+ghost use Rattle.pdc_core.specs.KeptArrival.{CameIn, kept_part, taken_view, takes_no_memory};
+ghost use Rattle.pdc_core.specs.KeptArrival.{wanted_of};
 ghost use Rattle.pdc_memory.specs.Asking.{WasRefused};
 ghost use Rattle.pdc_align.specs.pdc_arrival.Views.{arrival_view, section_part};
 ghost use Rattle.pdc_align.specs.pdc_life.Arrival.{Data, Layout};
@@ -10,6 +11,7 @@ ghost use Rattle.pdc_align.specs.pdc_life.Views.{arrival_view as reading_view};
 use crate::{KeptLayout, KeptSection, Payload, SHORT_PAYLOAD, ShortPayload};
 use arrayvec::ArrayVec;
 use pdc_align::{Arrival, ColumnSection, MAX_PMUS, Reading, Refusal, SectionView};
+use pdc_frame::front_of;
 use pdc_memory::Held;
 use std::alloc::{AllocError, Global};
 
@@ -212,6 +214,22 @@ impl KeptArrival {
             payload,
         };
         self.set_reading(alloc, 0, &reading)
+    }
+
+    /// Keeps with long data the front and the check word of the frame in which it came: so the check word follows of what goes out for it. It
+    /// shows what it showed.
+    #[inline(always)]
+    pub fn know_frame(&mut self, frame: &[u8])
+        requires { CameIn self.old frame.now }
+        ensures { taken_view self.new ≡ taken_view self.old }
+    {
+        if let KeptArrival::Data {
+            payload: Payload::Long(own),
+            ..
+        } = self
+        {
+            own.sent = front_of(frame);
+        }
     }
 
     /// Makes this a copy of what is read of a PMU, whose configuration is of this column.

@@ -1,11 +1,15 @@
 //! The payload of data that is kept.
-ghost use Rattle.std.specs.Prelude.{◌≡◌, ◌≤◌, [], IfOk, IsOk, OnErr, false, length, true};
+ghost use Rattle.std.specs.Prelude.{◌≡◌, ◌≤◌, ◌++◌, [], IfOk, IsOk, OnErr, drop, false, length};
+ghost use Rattle.std.specs.Prelude.{true};
+ghost use Rattle.std.specs.Option.{ForSome};
+ghost use Rattle.pdc_frame.specs.CheckWord.{check_word_of};
 ghost use Rattle.pdc_memory.specs.Asking.{WasRefused};
 ghost use Rattle.pdc_core.specs.KeptArrival.{bytes_of, can_hold};
 ghost use Rattle.pdc_core.specs.declared.payload.TheConstants.{SHORT_PAYLOAD};
 
+use crate::LongPayload;
 use pdc_align::copy_block;
-use pdc_memory::Held;
+use pdc_frame::CheckedFront;
 use std::alloc::{AllocError, Global};
 use std::fmt;
 use std::fmt::{Debug, Formatter};
@@ -76,7 +80,7 @@ pub enum Payload {
     /// At most 214 bytes.
     Short(ShortPayload),
     /// More of them.
-    Long(Held<u8>),
+    Long(LongPayload),
 }
 
 impl Payload {
@@ -93,7 +97,7 @@ impl Payload {
         if bytes.len() <= SHORT_PAYLOAD {
             return Ok(Payload::in_place(bytes));
         }
-        Ok(Payload::Long(Held::copy_of(alloc, bytes)?))
+        Ok(Payload::Long(LongPayload::of(alloc, bytes)?))
     }
 
     /// A copy of at most 214 bytes, in place.
@@ -123,13 +127,7 @@ impl Payload {
                 own.set(bytes);
                 true
             }
-            Payload::Long(own) => {
-                if bytes.len() != own.len() {
-                    return false;
-                }
-                own.as_mut_slice().copy_from_slice(bytes);
-                true
-            }
+            Payload::Long(own) => own.set(bytes),
         }
     }
 
@@ -140,7 +138,19 @@ impl Payload {
     {
         match self {
             Payload::Short(bytes) => bytes.as_slice(),
-            Payload::Long(bytes) => bytes.as_slice(),
+            Payload::Long(own) => own.bytes.as_slice(),
+        }
+    }
+
+    /// The front and the check word of the frame in which they came, if they are known: the front ends with the first 14 bytes.
+    #[inline(always)]
+    pub fn sent(&self) -> Option<&CheckedFront>
+        ensures { ForSome result (λ known. known.now.check ≡
+            check_word_of (known.now.bytes ++ drop 14 (bytes_of self.now))) }
+    {
+        match self {
+            Payload::Short(_) => None,
+            Payload::Long(own) => own.sent.as_ref(),
         }
     }
 }

@@ -1,9 +1,11 @@
 //! Settings by which bytes are read.
-ghost use Rattle.std.specs.Prelude.{◌≡◌, ◌<◌, ℕ, Bool, IfOk, IsOk, List, OnErr, OnOk, length, true};
+ghost use Rattle.std.specs.Prelude.{◌≡◌, ◌*◌, ◌<◌, ℕ, Bool, IfOk, IsOk, List, OnErr, OnOk, length, true};
 ghost use Rattle.pdc_core.specs.Fits.{fits_merger, fits_node};
 ghost use Rattle.pdc_align.specs.pdc_arrival.Heard.{HearsForMerger};
-ghost use Rattle.pdc_core.specs.KeptArrival.{CopyWasRefused, IsMadeInPlace, taken_view};
-ghost use Rattle.pdc_align.specs.pdc_life.Arrival.{Arrival};
+ghost use Rattle.pdc_core.specs.KeptArrival.{Brings, CopyWasRefused, IsMadeInPlace, taken_view};
+ghost use Rattle.pdc_core.specs.KeptArrival.{takes_no_memory};
+ghost use Rattle.pdc_memory.specs.Asking.{WasRefused};
+ghost use Rattle.pdc_align.specs.pdc_life.Arrival.{Arrival, Data};
 ghost use Rattle.pdc_align.specs.pdc_life.CoreKind.{OfMerger, OfNode, Says};
 ghost use Rattle.pdc_align.specs.pdc_arrival.Views.{arrival_view};
 ghost use Rattle.pdc_align.specs.pdc_arrival.declared.from_node.TheConstants.{NODES};
@@ -143,10 +145,31 @@ impl Reads for MergerSettings {
                 instant,
                 quality,
                 payload,
-            } => kept.set_data(alloc, instant, quality, payload),
+            } => keep_data(alloc, instant, quality, payload, bytes, kept),
             heard => keep_heard(self, alloc, stream, heard, kept),
         }
     }
+}
+
+/// Data of a node, kept here, with what is known of the frame in which it came.
+#[inline(always)]
+fn keep_data(
+    alloc: Global,
+    instant: u64,
+    quality: u8,
+    payload: &[u8],
+    frame: &[u8],
+    kept: &mut KeptArrival,
+) -> Result<(), AllocError>
+    requires { Brings frame.now payload.now }
+    ensures same { OnOk result (taken_view kept.new ≡ Data instant quality payload.now) }
+    ensures refused { OnErr result (WasRefused (length payload.now)) }
+    ensures in_place { takes_no_memory (Data instant quality payload.now) ≡ true → IsOk result }
+    ensures err { OnErr result (kept.new ≡ kept.old) }
+{
+    kept.set_data(alloc, instant, quality, payload)?;
+    kept.know_frame(frame);
+    Ok(())
 }
 
 /// What was heard of a node, kept here. It stands apart, so that data wants no room for what a configuration says.
