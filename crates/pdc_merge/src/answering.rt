@@ -1,10 +1,12 @@
 //! What the merger answers to what arrives, over its alignment and the layouts that it holds.
-ghost use Rattle.std.specs.Prelude.{◌≡◌, ℕ, ◌+◌, ◌∷◌, ◌<◌, ◌≤◌, List, Some, drop, length, map};
+ghost use Rattle.std.specs.Prelude.{◌≡◌, ℕ, ◌+◌, ◌++◌, ◌∷◌, ◌<◌, ◌≤◌, List, Some, drop, length, map};
 ghost use Rattle.std.specs.Prelude.{option_map};
 ghost use Rattle.std.specs.List.{AllByRecursion};
+ghost use Rattle.std.specs.Option.{ForSome};
 ghost use Rattle.pdc_align.specs.Align.{StandsFor, Unchanged};
 ghost use Rattle.pdc_block.specs.Block.{words_in};
 ghost use Rattle.pdc_cfg.specs.Section.{SectionFields};
+ghost use Rattle.pdc_frame.specs.CheckWord.{check_word_of};
 ghost use Rattle.pdc_life.specs.pdc_row.declared.limits.TheConstants.{MAX_PMUS};
 ghost use Rattle.pdc_life.specs.Answer.{answered, outcome_in_time, with_cells, ToArrive};
 ghost use Rattle.pdc_life.specs.Arrival.{Data, Layout};
@@ -28,8 +30,9 @@ use pdc_arrival::{
     Arrival, ColumnSection, OWN_BLOCK_LEN, Stamp, bears, differs, is_candidate, layout_answer,
 };
 use pdc_block::words_are_cut;
+use pdc_frame::CheckedFront;
 use pdc_life::{Outcome, Refusal};
-use pdc_table::{Table, new_room};
+use pdc_table::{Cut, Table, new_room};
 
 /// Why data is refused under a layout, if it is: it is too short for an own block, it bears another stamp, or it has another length.
 fn data_refusal(layout: &HeldLayout, payload: &[u8]) -> Option<Refusal>
@@ -94,6 +97,7 @@ fn put_data<T: Table>(
     instant: u64,
     quality: u8,
     payload: &[u8],
+    sent: Option<&CheckedFront>,
 ) -> Outcome
     requires each { length alignment.old.state.columns ≡ alignment.old.state.content.columns }
     requires lanes { alignment.old.state.content.lanes ≡ 2 }
@@ -101,6 +105,8 @@ fn put_data<T: Table>(
     requires in_place { AreInPlace (length alignment.old.state.columns) layout.now.sections }
     requires size { length payload.now ≡ OWN_BLOCK_LEN + blocks_len layout.now.sections }
     requires in_force { is_in_force ≡ are_in_force alignment.old.state layout.now.sections }
+    requires sent { ForSome sent (λ known. known.now.check ≡
+        check_word_of (known.now.bytes ++ drop 14 payload.now)) }
     ensures answer { (g : Given) (E : List Entry) → StandsFor g E alignment.old.state →
         result ≡ outcome_in_time g E stream instant
         (cells_in alignment.old.state quality layout.now.sections (drop 7 (words_in payload.now))) }
@@ -115,16 +121,14 @@ fn put_data<T: Table>(
     ensures unchanged { Unchanged alignment.old alignment.new }
 {
     words_are_cut();
-    let blocks = &payload[OWN_BLOCK_LEN..];
     if is_in_force {
-        return alignment.put_parts(
-            stream,
-            instant,
-            layout.sections(),
-            layout.laid(),
-            blocks,
-            quality,
-        );
+        let cut = Cut {
+            parts: layout.sections(),
+            laid: layout.laid(),
+            bytes: &payload[OWN_BLOCK_LEN..],
+            sent,
+        };
+        return alignment.put_parts(stream, instant, &cut, quality);
     }
     put_some(alignment, layout, stream, instant, quality, payload)
 }
@@ -138,12 +142,15 @@ fn answer_under<T: Table>(
     instant: u64,
     quality: u8,
     payload: &[u8],
+    sent: Option<&CheckedFront>,
 ) -> Outcome
     requires each { length alignment.old.state.columns ≡ alignment.old.state.content.columns }
     requires lanes { alignment.old.state.content.lanes ≡ 2 }
     requires stream { stream < 2 }
     requires in_place { AreInPlace (length alignment.old.state.columns) layout.now.sections }
     requires in_force { is_in_force ≡ are_in_force alignment.old.state layout.now.sections }
+    requires sent { ForSome sent (λ known. known.now.check ≡
+        check_word_of (known.now.bytes ++ drop 14 payload.now)) }
     ensures answer { (g : Given) (E : List Entry) → StandsFor g E alignment.old.state →
         Some layout.now ≡ layout_at (layouts_of E) stream →
         result ≡ (merged_answer g E stream (Data instant quality payload.now)).outcome }
@@ -167,6 +174,7 @@ fn answer_under<T: Table>(
             instant,
             quality,
             payload,
+            sent,
         ),
     }
 }
@@ -288,10 +296,13 @@ pub fn answer_data<T: Table>(
     instant: u64,
     quality: u8,
     payload: &[u8],
+    sent: Option<&CheckedFront>,
 ) -> Outcome
     requires ready { IsReady alignment.old.state layouts.now }
     requires known { in_force ≡ layouts_in_force alignment.old.state layouts.now }
     requires stream { stream < 2 }
+    requires sent { ForSome sent (λ known. known.now.check ≡
+        check_word_of (known.now.bytes ++ drop 14 payload.now)) }
     ensures answer { (g : Given) (E : List Entry) → StandsFor g E alignment.old.state →
         layouts.now ≡ layouts_of E →
         result ≡ (merged_answer g E stream (Data instant quality payload.now)).outcome }
@@ -313,6 +324,7 @@ pub fn answer_data<T: Table>(
             instant,
             quality,
             payload,
+            sent,
         ),
         None => Outcome::Refused(Refusal::NoConfig),
     }
@@ -354,7 +366,7 @@ pub fn answer<T: Table>(
             quality,
             payload,
         } => answer_data(
-            alignment, layouts, in_force, stream, *instant, *quality, payload,
+            alignment, layouts, in_force, stream, *instant, *quality, payload, None,
         ),
         Arrival::Layout { stamp, sections } => {
             answer_configuration(alignment, layouts, stream, *stamp, sections)

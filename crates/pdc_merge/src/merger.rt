@@ -1,5 +1,7 @@
 //! The merger.
-ghost use Rattle.std.specs.Prelude.{◌≡◌, ◌<◌, ◌∷◌, ℕ, [], IfOk, List, length, true, OnErr};
+ghost use Rattle.std.specs.Prelude.{◌≡◌, ◌<◌, ◌∷◌, ◌++◌, ℕ, [], IfOk, List, drop, length, true, OnErr};
+ghost use Rattle.std.specs.Option.{ForSome};
+ghost use Rattle.pdc_frame.specs.CheckWord.{check_word_of};
 ghost use Rattle.pdc_core.specs.pdc_memory.Asking.{SomeWasRefused};
 ghost use Rattle.pdc_core.specs.Fits.{fits_merger};
 ghost use Rattle.pdc_core.specs.KeptArrival.{taken_view};
@@ -20,7 +22,7 @@ use crate::opens::copy_of_merger;
 use pdc_align::{Alignment, Plan, Ticked, append_layout_frame, others_are_left};
 use pdc_arrival::{Arrival, Counts, Reading, arrival_from_node, hear_from_node};
 use pdc_core::{Core, KeptArrival};
-use pdc_frame::Buffer;
+use pdc_frame::{Buffer, CheckedFront};
 use pdc_life::{MAX_PMUS, MergerSettings, Outcome, Refusal, lives_are_runs, rows_have_tags};
 use pdc_table::{DueRow, Table};
 use std::alloc::{AllocError, Global};
@@ -114,8 +116,17 @@ impl<T: Table> Merger<T> {
     }
 
     /// Answers data of a node, and takes it where it is to be taken.
-    fn arrive_data(&mut self, stream: usize, instant: u64, quality: u8, payload: &[u8]) -> Outcome
-        requires { stream < 2 }
+    fn arrive_data(
+        &mut self,
+        stream: usize,
+        instant: u64,
+        quality: u8,
+        payload: &[u8],
+        sent: Option<&CheckedFront>,
+    ) -> Outcome
+        requires stream { stream < 2 }
+        requires sent { ForSome sent (λ known. known.now.check ≡
+            check_word_of (known.now.bytes ++ drop 14 payload.now)) }
         ensures answer { (g : Given) (E : List Entry) → StandsFor g E self.old →
             result ≡ (merged_answer g E stream (Data instant quality payload.now)).outcome }
         ensures stands { (g : Given) (E : List Entry) (bytes : List ℕ) →
@@ -137,6 +148,7 @@ impl<T: Table> Merger<T> {
             instant,
             quality,
             payload,
+            sent,
         );
         self.counts.count(outcome);
         outcome
@@ -232,7 +244,13 @@ impl<T: Table> Core for Merger<T> {
                 instant,
                 quality,
                 payload,
-            } => self.arrive_data(stream, *instant, *quality, payload.as_slice()),
+            } => self.arrive_data(
+                stream,
+                *instant,
+                *quality,
+                payload.as_slice(),
+                payload.sent(),
+            ),
             KeptArrival::BytesRefused(refusal) => self.arrive_refused(*refusal),
             KeptArrival::Layout(_) => self.arrive_whole(stream, taken),
         }
@@ -246,7 +264,7 @@ impl<T: Table> Core for Merger<T> {
                 instant,
                 quality,
                 payload,
-            } => self.arrive_data(stream, instant, quality, payload),
+            } => self.arrive_data(stream, instant, quality, payload, None),
             Reading::BytesRefused(refusal) => self.arrive_refused(refusal),
             heard => {
                 let arrival = arrival_from_node(&self.settings, stream, heard);

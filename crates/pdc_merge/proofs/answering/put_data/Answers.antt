@@ -4,7 +4,7 @@ use Rattle.pdc_block.specs.Block.{words_in}
 use Rattle.pdc_block.specs.Laws.{WordsAreCut}
 use Rattle.pdc_row.specs.CellView.{CellView}
 use Rattle.pdc_table.specs.Content.{IsPut}
-use Rattle.pdc_table.specs.pdc_open_row.Parts.{cut_cells, laid_out}
+use Rattle.pdc_table.specs.pdc_open_row.Parts.{cut_cells}
 use Rattle.pdc_life.specs.Answer.{outcome_in_time, with_cells}
 use Rattle.pdc_life.specs.Arrival.{Data}
 use Rattle.pdc_life.specs.Life.{Arrive}
@@ -40,10 +40,6 @@ put_parts-requires-clause-put g c =
     subst (λ (cs : List (ℕ × CellView)). IsPut a.content c.args.stream cs)
     (sym (cut a c.args.quality c.args.layout.now.sections c.sections.result.now c.args.payload.now c.words_are_cut.ensures c.sections.ensures.sections (known c.args.alignment.now.state c.sections.result.now c.args.layout.now.sections c.args.is_in_force c.sections.ensures.sections c.requires.in_force c.if-is_in_force.true)))
     (is_put a c.args.stream c.args.quality c.args.layout.now.sections (drop 7 (words_in c.args.payload.now)) c.requires.each c.requires.lanes c.requires.stream c.requires.in_place)
-
-pub put_parts-requires-clause-laid : goal.put_parts-requires-clause-laid
-put_parts-requires-clause-laid g c =
-    c.laid.ensures ∙ ap (laid_out (λ (s : HeldSection). s.column) (λ (s : HeldSection). s.shape)) (sym c.sections.ensures.sections)
 
 pub returns-then-is_in_force-clause-answer : goal.returns-then-is_in_force-clause-answer
 returns-then-is_in_force-clause-answer g c life E stands =
