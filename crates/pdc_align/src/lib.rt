@@ -36,7 +36,7 @@ pub use pdc_arrival::{
     Output, Reading, Refusal, Section, SectionView, Settings, Stamp, arrival_from_node,
     hear_from_node, hear_from_pmu, read_from_node, read_from_pmu,
 };
-pub use pdc_table::copy_block;
+pub use pdc_table::{CheckedFront, copy_block, front_of};
 pub use plan::Plan;
 pub use state_laws::{answers_agree, cells_are_put, others_leave_it, take_is_take};
 pub use ticked::Ticked;

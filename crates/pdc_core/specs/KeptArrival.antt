@@ -9,7 +9,7 @@ use Rattle.pdc_core.specs.declared.kept_arrival.KeptArrival.{KeptArrival as Kept
 use Rattle.pdc_core.specs.declared.kept_arrival.KeptArrival.TheVariants as taken
 use Rattle.pdc_align.specs.pdc_life.Arrival.{Arrival, BytesRefused, Data, Layout}
 use Rattle.pdc_align.specs.pdc_arrival.Views.{stamp_view}
-use Rattle.pdc_frame.specs.Frame.{Fields, IsFrame}
+use Rattle.pdc_align.specs.pdc_frame.Frame.{Fields, IsFrame}
 use Rattle.pdc_memory.specs.Asking.{WasRefused}
 
 abbrev pub bytes_of : Payload → List ℕ

@@ -10,8 +10,7 @@ ghost use Rattle.pdc_align.specs.pdc_life.Views.{arrival_view as reading_view};
 
 use crate::{KeptLayout, KeptSection, Payload, SHORT_PAYLOAD, ShortPayload};
 use arrayvec::ArrayVec;
-use pdc_align::{Arrival, ColumnSection, MAX_PMUS, Reading, Refusal, SectionView};
-use pdc_frame::front_of;
+use pdc_align::{Arrival, ColumnSection, MAX_PMUS, Reading, Refusal, SectionView, front_of};
 use pdc_memory::Held;
 use std::alloc::{AllocError, Global};
 

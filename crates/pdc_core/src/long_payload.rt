@@ -1,10 +1,10 @@
 //! A payload that is longer than that of a PMU's data.
 ghost use Rattle.std.specs.Prelude.{◌≡◌, ◌==◌, ◌++◌, IfOk, OnErr, drop, false, length, true};
 ghost use Rattle.std.specs.Option.{ForSome};
-ghost use Rattle.pdc_frame.specs.CheckWord.{check_word_of};
+ghost use Rattle.pdc_align.specs.pdc_frame.CheckWord.{check_word_of};
 ghost use Rattle.pdc_memory.specs.Asking.{WasRefused};
 
-use pdc_frame::CheckedFront;
+use pdc_align::CheckedFront;
 use pdc_memory::Held;
 use std::alloc::{AllocError, Global};
 

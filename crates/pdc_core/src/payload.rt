@@ -2,14 +2,13 @@
 ghost use Rattle.std.specs.Prelude.{◌≡◌, ◌≤◌, ◌++◌, [], IfOk, IsOk, OnErr, drop, false, length};
 ghost use Rattle.std.specs.Prelude.{true};
 ghost use Rattle.std.specs.Option.{ForSome};
-ghost use Rattle.pdc_frame.specs.CheckWord.{check_word_of};
+ghost use Rattle.pdc_align.specs.pdc_frame.CheckWord.{check_word_of};
 ghost use Rattle.pdc_memory.specs.Asking.{WasRefused};
 ghost use Rattle.pdc_core.specs.KeptArrival.{bytes_of, can_hold};
 ghost use Rattle.pdc_core.specs.declared.payload.TheConstants.{SHORT_PAYLOAD};
 
 use crate::LongPayload;
-use pdc_align::copy_block;
-use pdc_frame::CheckedFront;
+use pdc_align::{CheckedFront, copy_block};
 use std::alloc::{AllocError, Global};
 use std::fmt;
 use std::fmt::{Debug, Formatter};

@@ -3,8 +3,8 @@ use Rattle.std.specs.Option.{ForSome}
 use Rattle.std.specs.Prelude.{IfSome}
 use Rattle.pdc_core.specs.KeptArrival.{Brings, bytes_of, taken_view}
 use Rattle.pdc_align.specs.pdc_life.Arrival.{Data}
-use Rattle.pdc_frame.specs.CheckWord.{check_word_of}
-use Rattle.pdc_frame.specs.declared.CheckedFront.{CheckedFront}
+use Rattle.pdc_align.specs.pdc_frame.CheckWord.{check_word_of}
+use Rattle.pdc_align.specs.declared.CheckedFront.{CheckedFront}
 use Rattle.pdc_core.proofs.kept_arrival.KeptArrival.know_frame.Goals as goal
 
 -- of what it holds, with these bytes behind the front
