@@ -1,2 +1,3 @@
 pub mod Alike
 mod Refusing
+mod Sent

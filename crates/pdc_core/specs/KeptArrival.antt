@@ -9,7 +9,7 @@ use Rattle.pdc_core.specs.declared.kept_arrival.KeptArrival.{KeptArrival as Kept
 use Rattle.pdc_core.specs.declared.kept_arrival.KeptArrival.TheVariants as taken
 use Rattle.pdc_align.specs.pdc_life.Arrival.{Arrival, BytesRefused, Data, Layout}
 use Rattle.pdc_align.specs.pdc_arrival.Views.{stamp_view}
-use Rattle.pdc_align.specs.pdc_frame.Frame.{Fields, IsFrame}
+use Rattle.pdc_core.specs.Brings.{Brings}
 use Rattle.pdc_memory.specs.Asking.{WasRefused}
 
 abbrev pub bytes_of : Payload → List ℕ
@@ -35,12 +35,6 @@ abbrev pub takes_no_memory : Arrival → Bool
 takes_no_memory (BytesRefused refusal) = true
 takes_no_memory (Data instant quality payload) = nat_le (length payload) 214
 takes_no_memory (Layout stamp sections) = false
-
--- The bytes are a frame with this payload.
-pub record Brings (frame : List ℕ) (payload : List ℕ) : Type 0 where
-  pub fields : Fields
-  pub is_frame : IsFrame frame fields
-  pub same : fields.payload ≡ payload
 
 -- where data is kept, these bytes are the frame in which its payload came
 abbrev pub CameIn : KeptArrivalData → List ℕ → Type 0

@@ -1,4 +1,5 @@
 pub mod Alike
+pub mod Brings
 pub mod Core
 pub mod Fits
 pub mod Said

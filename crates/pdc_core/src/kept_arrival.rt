@@ -10,7 +10,7 @@ ghost use Rattle.pdc_align.specs.pdc_life.Views.{arrival_view as reading_view};
 
 use crate::{KeptLayout, KeptSection, Payload, SHORT_PAYLOAD, ShortPayload};
 use arrayvec::ArrayVec;
-use pdc_align::{Arrival, ColumnSection, MAX_PMUS, Reading, Refusal, SectionView, front_of};
+use pdc_align::{Arrival, ColumnSection, MAX_PMUS, Reading, Refusal, SectionView};
 use pdc_memory::Held;
 use std::alloc::{AllocError, Global};
 
@@ -215,19 +215,15 @@ impl KeptArrival {
         self.set_reading(alloc, 0, &reading)
     }
 
-    /// Keeps with long data the front and the check word of the frame in which it came: so the check word follows of what goes out for it. It
-    /// shows what it showed.
+    /// Keeps with data the front and the check word of the frame in which it came: so the check word follows of what goes out for it. It shows
+    /// what it showed.
     #[inline(always)]
     pub fn know_frame(&mut self, frame: &[u8])
         requires { CameIn self.old frame.now }
         ensures { taken_view self.new ≡ taken_view self.old }
     {
-        if let KeptArrival::Data {
-            payload: Payload::Long(own),
-            ..
-        } = self
-        {
-            own.sent = front_of(frame);
+        if let KeptArrival::Data { payload, .. } = self {
+            payload.know_frame(frame);
         }
     }
 

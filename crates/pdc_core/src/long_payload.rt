@@ -2,9 +2,10 @@
 ghost use Rattle.std.specs.Prelude.{◌≡◌, ◌==◌, ◌++◌, IfOk, OnErr, drop, false, length, true};
 ghost use Rattle.std.specs.Option.{ForSome};
 ghost use Rattle.pdc_align.specs.pdc_frame.CheckWord.{check_word_of};
+ghost use Rattle.pdc_core.specs.Brings.{Brings};
 ghost use Rattle.pdc_memory.specs.Asking.{WasRefused};
 
-use pdc_align::CheckedFront;
+use pdc_align::{CheckedFront, front_of};
 use pdc_memory::Held;
 use std::alloc::{AllocError, Global};
 
@@ -48,5 +49,14 @@ impl LongPayload {
         self.sent = None;
         self.bytes.as_mut_slice().copy_from_slice(bytes);
         true
+    }
+
+    /// Keeps with them the front and the check word of the frame in which they came. They stay.
+    #[inline(always)]
+    pub(crate) fn know_frame(&mut self, frame: &[u8])
+        requires { Brings frame.now self.old.bytes.items }
+        ensures { self.new.bytes ≡ self.old.bytes }
+    {
+        self.sent = front_of(frame);
     }
 }

@@ -4,11 +4,12 @@ ghost use Rattle.std.specs.Prelude.{true};
 ghost use Rattle.std.specs.Option.{ForSome};
 ghost use Rattle.pdc_align.specs.pdc_frame.CheckWord.{check_word_of};
 ghost use Rattle.pdc_memory.specs.Asking.{WasRefused};
+ghost use Rattle.pdc_core.specs.Brings.{Brings};
 ghost use Rattle.pdc_core.specs.KeptArrival.{bytes_of, can_hold};
 ghost use Rattle.pdc_core.specs.declared.payload.TheConstants.{SHORT_PAYLOAD};
 
 use crate::LongPayload;
-use pdc_align::{CheckedFront, copy_block};
+use pdc_align::{CheckedFront, copy_block, front_of};
 use std::alloc::{AllocError, Global};
 use std::fmt;
 use std::fmt::{Debug, Formatter};
@@ -17,22 +18,30 @@ use std::marker::Model;
 /// The most bytes of a PMU's data: 107 words.
 pub const SHORT_PAYLOAD: usize = 214;
 
-/// At most 214 bytes, in place. What stands behind them is left there, so that others are written over them without zeros before.
+/// At most 214 bytes, in place. What stands behind them is left there, so that others are written over them without zeros before. Beside them
+/// are the front and the check word of the frame in which they came, if these are known.
 #[derive(Drop)]
 pub struct ShortPayload {
     len: usize,
     bytes: [u8; SHORT_PAYLOAD],
+    sent: Option<CheckedFront>,
 }
 
 impl Model for ShortPayload {
-    ghost use Rattle.std.specs.Prelude.{◌≤◌, ℕ, List, take};
+    ghost use Rattle.std.specs.Prelude.{◌≡◌, ◌≤◌, ◌++◌, ℕ, List, drop, take};
+    ghost use Rattle.std.specs.Option.{ForSome};
+    ghost use Rattle.pdc_align.specs.pdc_frame.CheckWord.{check_word_of};
     ghost use Rattle.pdc_core.specs.declared.payload.TheConstants.{SHORT_PAYLOAD};
 
     ghost Value = { List ℕ };
 
     ghost view = { λ payload. take payload.len payload.bytes };
 
-    ghost invariant = { λ payload. payload.len ≤ SHORT_PAYLOAD };
+    ghost invariant = { λ payload. record {
+      fits : payload.len ≤ SHORT_PAYLOAD;
+      known : ForSome payload.sent (λ known. known.check ≡
+          check_word_of (known.bytes ++ drop 14 (take payload.len payload.bytes)));
+    } };
 }
 
 impl ShortPayload {
@@ -44,17 +53,48 @@ impl ShortPayload {
         ShortPayload {
             len: 0,
             bytes: [0; SHORT_PAYLOAD],
+            sent: None,
         }
     }
 
-    /// Writes these bytes over those that it has.
+    /// Writes these bytes over those that it has. The frame in which they came is not known then.
     #[inline(always)]
     pub fn set(&mut self, bytes: &[u8])
         requires { length bytes.now ≤ SHORT_PAYLOAD }
         ensures { self.new ≡ bytes.now }
     {
+        self.sent = None;
         copy_block(&mut self.bytes[..bytes.len()], bytes);
         self.len = bytes.len();
+    }
+
+    /// Writes those of the other one over those that it has, with what is known of the frame in which they came.
+    #[inline(always)]
+    pub fn set_as(&mut self, other: &ShortPayload)
+        ensures { self.new ≡ other.now }
+    {
+        let _ = &other.len;
+        self.set(other.as_slice());
+        self.sent = other.sent;
+    }
+
+    /// Keeps with them the front and the check word of the frame in which they came.
+    #[inline(always)]
+    pub(crate) fn know_frame(&mut self, frame: &[u8])
+        requires { Brings frame.now self.old }
+        ensures { self.new ≡ self.old }
+    {
+        let _ = &self.len;
+        self.sent = front_of(frame);
+    }
+
+    /// The front and the check word of the frame in which they came, if these are known.
+    #[inline(always)]
+    pub(crate) fn sent(&self) -> Option<&CheckedFront>
+        ensures { ForSome result (λ known. known.now.check ≡
+            check_word_of (known.now.bytes ++ drop 14 self.now)) }
+    {
+        self.sent.as_ref()
     }
 
     /// The bytes.
@@ -141,6 +181,18 @@ impl Payload {
         }
     }
 
+    /// Keeps with them the front and the check word of the frame in which they came. They stay.
+    #[inline(always)]
+    pub fn know_frame(&mut self, frame: &[u8])
+        requires { Brings frame.now (bytes_of self.old) }
+        ensures { bytes_of self.new ≡ bytes_of self.old }
+    {
+        match self {
+            Payload::Short(own) => own.know_frame(frame),
+            Payload::Long(own) => own.know_frame(frame),
+        }
+    }
+
     /// The front and the check word of the frame in which they came, if they are known: the front ends with the first 14 bytes.
     #[inline(always)]
     pub fn sent(&self) -> Option<&CheckedFront>
@@ -148,7 +200,7 @@ impl Payload {
             check_word_of (known.now.bytes ++ drop 14 (bytes_of self.now))) }
     {
         match self {
-            Payload::Short(_) => None,
+            Payload::Short(own) => own.sent(),
             Payload::Long(own) => own.sent.as_ref(),
         }
     }

@@ -2,7 +2,8 @@
 ghost use Rattle.std.specs.Prelude.{◌≡◌, ◌*◌, ◌<◌, ℕ, Bool, IfOk, IsOk, List, OnErr, OnOk, length, true};
 ghost use Rattle.pdc_core.specs.Fits.{fits_merger, fits_node};
 ghost use Rattle.pdc_align.specs.pdc_arrival.Heard.{HearsForMerger};
-ghost use Rattle.pdc_core.specs.KeptArrival.{Brings, CopyWasRefused, IsMadeInPlace, taken_view};
+ghost use Rattle.pdc_core.specs.Brings.{Brings};
+ghost use Rattle.pdc_core.specs.KeptArrival.{CopyWasRefused, IsMadeInPlace, taken_view};
 ghost use Rattle.pdc_core.specs.KeptArrival.{takes_no_memory};
 ghost use Rattle.pdc_memory.specs.Asking.{WasRefused};
 ghost use Rattle.pdc_align.specs.pdc_life.Arrival.{Arrival, Data};

@@ -6,7 +6,7 @@ ghost use Rattle.pdc_core.specs.declared.step.CoreStep.TheVariants as step;
 ghost use Rattle.pdc_memory.specs.Asking.{WasRefused};
 ghost use Rattle.pdc_memory.specs.Held.{held_items};
 
-use pdc_core::{CoreStep, KeptArrival, Payload, SHORT_PAYLOAD};
+use pdc_core::{CoreStep, KeptArrival, Payload, ShortPayload};
 use pdc_memory::Held;
 use std::alloc::{AllocError, Global};
 use std::marker::Model;
@@ -160,7 +160,7 @@ fn copy_short(own: &mut KeptArrival, other: &KeptArrival) -> bool
             payload,
         } = own
         {
-            if write_in_place(payload, bytes.as_slice()) {
+            if write_in_place(payload, bytes) {
                 *own_instant = *instant;
                 *own_quality = *quality;
                 return true;
@@ -170,17 +170,17 @@ fn copy_short(own: &mut KeptArrival, other: &KeptArrival) -> bool
     false
 }
 
-/// Writes these bytes over those in place; whether there are such, with room for these. Else it stays.
+/// Writes this short payload over one in place; whether there is one. Else it stays.
 #[inline(always)]
-fn write_in_place(own: &mut Payload, bytes: &[u8]) -> bool
-    ensures written { result ≡ true → own.new ≡ payload.Short bytes.now }
+fn write_in_place(own: &mut Payload, other: &ShortPayload) -> bool
+    ensures written { result ≡ true → own.new ≡ payload.Short other.now }
     ensures none { result ≡ false → own.new ≡ own.old }
 {
     match own {
-        Payload::Short(own) if bytes.len() <= SHORT_PAYLOAD => {
-            own.set(bytes);
+        Payload::Short(own) => {
+            own.set_as(other);
             true
         }
-        _ => false,
+        Payload::Long(_) => false,
     }
 }

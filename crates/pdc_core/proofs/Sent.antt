@@ -1,0 +1,14 @@
+-- What is known of the frame that brought a payload.
+use Rattle.std.proofs.Common.{◌≡◌, ◌∙◌, ◌++◌, List, Option, ap, drop, subst, ℕ}
+use Rattle.std.specs.Option.{ForSome}
+use Rattle.std.specs.Prelude.{IfSome}
+use Rattle.pdc_align.specs.pdc_frame.CheckWord.{check_word_of}
+use Rattle.pdc_align.specs.declared.CheckedFront.{CheckedFront}
+
+-- of what it holds, with these bytes behind the front
+pub held : (known : Option CheckedFront) (bytes items : List ℕ) → bytes ≡ items → IfSome known (λ k. k.check ≡ check_word_of (k.bytes ++ drop 14 bytes))
+    → ForSome known (λ k. k.check ≡ check_word_of (k.bytes ++ drop 14 items))
+held known bytes items same told =
+    λ k is.
+    let here : k.check ≡ check_word_of (k.bytes ++ drop 14 bytes) = subst (λ (o : Option CheckedFront). IfSome o (λ k. k.check ≡ check_word_of (k.bytes ++ drop 14 bytes))) is told in
+    here ∙ ap (λ (xs : List ℕ). check_word_of (k.bytes ++ drop 14 xs)) same
