@@ -1,14 +1,10 @@
-use Rattle.std.proofs.Common.{◌≡◌, ◌∙◌, ◌<◌, Bool, List, arith, eqb, false, get_or, length, not, refl, sym, true, ℕ}
+use Rattle.std.proofs.Common.{◌≡◌, ◌∙◌, ◌<◌, Bool, List, arith, eqb, false, get_or, length, not, sym, true, ℕ}
 use Rattle.std.specs.Int.Bits.{bit_xor}
-use Rattle.std.proofs.lemmas.Bool.{eqb-true, not-false, or_parts}
+use Rattle.std.proofs.lemmas.Bool.{eqb-true, not-false, not-true, or_parts}
 use Rattle.std.proofs.lemmas.List.{take_all, take_more_same}
 use Rattle.pdc_words.proofs.FrontLemmas.{xor_bytes-at, xor_bytes-length}
 use Rattle.pdc_words.specs.Linear.{xor_bytes}
 use Rattle.pdc_words.proofs.fronts.differ_in.Goals as goal
-
-from_not : (b : Bool) → not b ≡ true → b ≡ false
-from_not true e = sym e
-from_not false e = refl
 
 pub loop-place-preserved : goal.loop-place-preserved
 loop-place-preserved c =
@@ -32,5 +28,5 @@ returns c =
     let other : List ℕ = c.args.other.now in
     let i : ℕ = c.loop-place.place in
     sym (take_all i (xor_bytes one other) (omega (arith, c.told-one, c.loop-place-test.false, xor_bytes-length one other (c.told-one ∙ sym c.told-other))))
-    ∙ c.loop-place.invariant (from_not c.loop-place.differ e)
+    ∙ c.loop-place.invariant (not-true c.loop-place.differ e)
     ∙ take_all i c.args.bytes.now (omega (arith, c.told-bytes, c.loop-place-test.false))
