@@ -23,8 +23,8 @@ pub const SHORT_PAYLOAD: usize = 214;
 #[derive(Drop)]
 pub struct ShortPayload {
     len: usize,
-    bytes: [u8; SHORT_PAYLOAD],
     sent: Option<CheckedFront>,
+    bytes: [u8; SHORT_PAYLOAD],
 }
 
 impl Model for ShortPayload {
@@ -52,8 +52,8 @@ impl ShortPayload {
     {
         ShortPayload {
             len: 0,
-            bytes: [0; SHORT_PAYLOAD],
             sent: None,
+            bytes: [0; SHORT_PAYLOAD],
         }
     }
 

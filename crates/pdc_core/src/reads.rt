@@ -3,7 +3,7 @@ ghost use Rattle.std.specs.Prelude.{◌≡◌, ◌*◌, ◌<◌, ℕ, Bool, IfOk
 ghost use Rattle.pdc_core.specs.Fits.{fits_merger, fits_node};
 ghost use Rattle.pdc_align.specs.pdc_arrival.Heard.{HearsForMerger};
 ghost use Rattle.pdc_core.specs.Brings.{Brings};
-ghost use Rattle.pdc_core.specs.KeptArrival.{CopyWasRefused, IsMadeInPlace, taken_view};
+ghost use Rattle.pdc_core.specs.KeptArrival.{CameIn, CopyWasRefused, IsMadeInPlace, taken_view};
 ghost use Rattle.pdc_core.specs.KeptArrival.{takes_no_memory};
 ghost use Rattle.pdc_memory.specs.Asking.{WasRefused};
 ghost use Rattle.pdc_align.specs.pdc_life.Arrival.{Arrival, Data};
@@ -146,7 +146,7 @@ impl Reads for MergerSettings {
                 instant,
                 quality,
                 payload,
-            } => keep_data(alloc, instant, quality, payload, bytes, kept),
+            } => keep_data(alloc, stream, instant, quality, payload, bytes, kept),
             heard => keep_heard(self, alloc, stream, heard, kept),
         }
     }
@@ -156,6 +156,7 @@ impl Reads for MergerSettings {
 #[inline(always)]
 fn keep_data(
     alloc: Global,
+    stream: usize,
     instant: u64,
     quality: u8,
     payload: &[u8],
@@ -169,8 +170,19 @@ fn keep_data(
     ensures err { OnErr result (kept.new ≡ kept.old) }
 {
     kept.set_data(alloc, instant, quality, payload)?;
-    kept.know_frame(frame);
+    know_first(stream, frame, kept);
     Ok(())
+}
+
+/// Keeps with data of node A what is known of the frame in which it came: what goes out has its blocks where they are present.
+#[inline(always)]
+fn know_first(stream: usize, frame: &[u8], kept: &mut KeptArrival)
+    requires { CameIn kept.old frame.now }
+    ensures { taken_view kept.new ≡ taken_view kept.old }
+{
+    if stream == 0 {
+        kept.know_frame(frame);
+    }
 }
 
 /// What was heard of a node, kept here. It stands apart, so that data wants no room for what a configuration says.

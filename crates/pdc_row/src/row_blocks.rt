@@ -39,10 +39,10 @@ pub struct RowBlocks {
     starts: [u16; MAX_CUT],
     /// How many bytes they have.
     len: usize,
-    /// Their bytes stand in front.
-    bytes: [u8; MAX_BLOCKS_LEN],
     /// The front and the check word of the frame in which they came, where they all came in one and that is known.
     sent: Option<CheckedFront>,
+    /// Their bytes stand in front.
+    bytes: [u8; MAX_BLOCKS_LEN],
 }
 
 impl Model for RowBlocks {
@@ -80,8 +80,8 @@ impl RowBlocks {
             shapes: [Shape::default(); MAX_PMUS],
             starts: [0; MAX_CUT],
             len: 0,
-            bytes: [0; MAX_BLOCKS_LEN],
             sent: None,
+            bytes: [0; MAX_BLOCKS_LEN],
         }
     }
 
@@ -149,8 +149,8 @@ impl RowBlocks {
             shapes: self.shapes,
             starts: self.starts,
             len: self.len,
-            bytes: self.bytes,
             sent: self.sent,
+            bytes: self.bytes,
         }
     }
 
