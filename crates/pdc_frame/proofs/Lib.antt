@@ -1,6 +1,7 @@
 pub mod Places
 pub mod Spellings
 pub mod Wholes
+mod Claims
 pub mod Streams
 pub mod Written
 pub mod Splitting

@@ -5,6 +5,7 @@ pub mod Nearest
 pub mod Slot
 pub mod Instant
 pub mod Tag
+pub mod Claim
 pub mod Command
 pub mod HeldBytes
 pub use Rattle.pdc_words.specs.Bytes

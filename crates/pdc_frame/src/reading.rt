@@ -31,7 +31,7 @@ fn kind_of(number: u8) -> Option<Kind>
 }
 
 /// What the two bytes of SYNC say.
-fn read_sync(first: u8, second: u8) -> Option<(Kind, u8)>
+pub(crate) fn read_sync(first: u8, second: u8) -> Option<(Kind, u8)>
     ensures { MatchOption result (IsSync first second → ⊥)
         (λ x. (second ≡ 16 * number_of x.0 + x.1) × (first ≡ 170) × ((x.1 ≡ 1) ⊎ (x.1 ≡ 2))) }
 {
@@ -52,7 +52,7 @@ pub(crate) fn is_sync(first: u8, second: u8) -> bool
 
 /// What stands in the places of the fields.
 #[inline]
-fn fields_in_places(bytes: &[u8], kind: Kind, version: u8) -> Frame<'_>
+pub(crate) fn fields_in_places(bytes: &[u8], kind: Kind, version: u8) -> Frame<'_>
     requires long { OVERHEAD ≤ length bytes.now }
     requires most { length bytes.now ≤ MAX_SIZE }
     requires version { (version ≡ 1) ⊎ (version ≡ 2) }

@@ -9,6 +9,7 @@
 #![tactic(auto)]
 
 mod absent;
+mod beside;
 mod block_copy;
 mod copied;
 mod due_row;
@@ -25,6 +26,7 @@ mod section;
 mod shapes;
 mod stamp;
 
+pub use beside::is_right_beside;
 pub use block_copy::copy_block;
 pub use copied::{CopyFrom, copy_each};
 pub use due_row::DueRow;
@@ -35,12 +37,12 @@ pub use offered::Offered;
 pub use output::{Nominal, Output};
 pub use output_laws::{layouts_are_frames, own_sections_tell_stamps, rows_are_frames};
 pub use pdc_block::{
-    Block, Body, Buffer, CHECK_LEN, CfgFault, CheckedFront, ConfigView, FRONT_LEN, Frame,
+    Block, Body, Buffer, CHECK_LEN, CfgFault, CheckedFront, Claim, ConfigView, FRONT_LEN, Frame,
     FrameFault, FrontDifference, HEADER_LEN, Kind, MAX_SECTION_LEN, OVERHEAD, Section, SectionView,
     Shape, StreamId, append_words, begin_frame, bodies_are_their_words,
     configurations_are_read_in_one_way, end_frame, frames_are_read_in_one_way,
-    frames_are_written_in_parts, front_of, instant, instant_is_nearest, read_body, read_config,
-    read_frame, read_word, words_are_cut, write_config, write_ends, write_fields,
+    frames_are_written_in_parts, front_of, instant, instant_is_nearest, read_body, read_claimed,
+    read_config, read_frame, read_word, words_are_cut, write_config, write_ends, write_fields,
 };
 pub use present::is_present;
 pub use row_blocks::{MAX_BLOCKS_LEN, MAX_CUT, RowBlocks};

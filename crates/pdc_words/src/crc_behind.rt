@@ -130,6 +130,23 @@ pub fn check_word_behind(header: u128, payload: &[u8]) -> u16
     check_of_state(after_any(state, payload))
 }
 
+/// The check word of a header and the payload behind it, which need not lie in one place.
+#[inline]
+pub fn check_word_of_parts(header: &[u8; BYTES_BEFORE_PAYLOAD], payload: &[u8]) -> u16
+    ensures { result ≡ check_word_of (header.now ++ payload.now) }
+{
+    check_word_behind(number_of(header), payload)
+}
+
+/// The bytes of a header as one number, the first highest.
+#[inline(always)]
+fn number_of(header: &[u8; BYTES_BEFORE_PAYLOAD]) -> u128
+    ensures { result ≡ polynomial_of header.now }
+{
+    let rest = read_few(&header[STEP..]);
+    (u128::from(read_step(header, 0)) << (8 * (BYTES_BEFORE_PAYLOAD - STEP))) + u128::from(rest)
+}
+
 /// The state after any bytes behind a header, of which this is the state.
 #[inline(always)]
 fn after_any(header: u128, payload: &[u8]) -> u64

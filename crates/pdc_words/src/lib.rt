@@ -16,7 +16,7 @@ mod laws;
 mod words;
 
 pub use crc::check_word;
-pub use crc_behind::{BYTES_BEFORE_PAYLOAD, check_word_behind};
+pub use crc_behind::{BYTES_BEFORE_PAYLOAD, check_word_behind, check_word_of_parts};
 pub use crc_moved::{check_word_of_other, moved_past, power_past};
 pub use fronts::{CheckedFront, FRONT_LEN, FrontDifference};
 pub use laws::{

@@ -1,4 +1,4 @@
-use Rattle.std.proofs.Common.{◌≡◌, ◌∙◌, ◌<◌, Bool, List, arith, eqb, false, get_or, length, not, sym, true, ℕ}
+use Rattle.std.proofs.Common.{◌∙◌, ◌<◌, List, arith, eqb, get_or, length, not, sym, ℕ}
 use Rattle.std.specs.Int.Bits.{bit_xor}
 use Rattle.std.proofs.lemmas.Bool.{eqb-true, not-false, not-true, or_parts}
 use Rattle.std.proofs.lemmas.List.{take_all, take_more_same}
