@@ -24,7 +24,7 @@ ghost use Rattle.pdc_align.specs.Calls.{first_of_plan, row_layout_in, waiting_in
 use crate::{Column, Plan, columns};
 use pdc_arrival::{ColumnSection, MAX_PMUS, SectionView, Shape, WaitKind};
 use pdc_memory::Held;
-use pdc_table::{CopyFrom, DueRow, RowLayout, Table, copy_each};
+use pdc_table::{CopyFrom, DueRow, RowBlocks, RowLayout, Table, copy_each};
 use std::alloc::{AllocError, Global};
 use std::marker::Model;
 
@@ -143,6 +143,13 @@ impl<T: Table> Alignment<T> {
         ensures { (g : Given) (E : List Entry) → StandsFor g E self.now.state → result ≡ changes E }
     {
         self.layout.change
+    }
+
+    /// The blocks that lie in lane 0 of an instant, if there are any: for a look whether those of a frame are the same. Which they are is left
+    /// open.
+    #[inline(always)]
+    pub fn first_blocks(&self, instant: u64) -> Option<&RowBlocks> {
+        self.table.first_blocks(instant)
     }
 
     /// How often, at a closing, both lanes of a column had present blocks that differed.

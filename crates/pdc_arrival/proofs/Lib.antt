@@ -1,5 +1,6 @@
 pub mod Beside
 pub mod Listed
+mod Claims
 pub mod OwnStamp
 mod Counting
 mod Worked

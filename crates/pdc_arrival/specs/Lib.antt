@@ -1,6 +1,7 @@
 pub mod Heard
 pub mod Placing
 pub mod Views
+pub mod Claimed
 pub mod Counts
 pub mod Stamps
 pub use Rattle.pdc_life.specs as pdc_life

@@ -58,7 +58,7 @@ pub fn arrival_from_node<'a>(
 
 /// The node of this stream.
 #[inline(always)]
-fn node_of(settings: &MergerSettings, stream: usize) -> &MergedNode
+pub(crate) fn node_of(settings: &MergerSettings, stream: usize) -> &MergedNode
     ensures { result.now ≡ node_of settings.now stream }
 {
     if stream == 0 {

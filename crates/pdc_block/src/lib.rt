@@ -28,8 +28,8 @@ pub use pdc_cfg::{
     FrontDifference, HEADER_LEN, Kind, MAX_SECTION_LEN, MAX_WORDS, OVERHEAD, Section, SectionView,
     Shape, StreamId, begin_frame, configurations_are_read_in_one_way, end_frame,
     frames_are_read_in_one_way, frames_are_written_in_parts, front_of, instant, instant_is_nearest,
-    read_claimed, read_config, read_frame, read_word, tag_is_nearest, tag_of, write_config, write_ends,
-    write_fields,
+    read_claimed, read_config, read_frame, read_word, tag_is_nearest, tag_of, write_config,
+    write_ends, write_fields,
 };
 pub use reading::{cut, read_body};
 pub use stat::{ErrorClass, Stat};

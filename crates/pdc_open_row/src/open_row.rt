@@ -113,6 +113,12 @@ impl OpenRow {
         self.instant
     }
 
+    /// The blocks that lie in lane 0, whether they are held or not: for a look whether those of a frame are the same.
+    #[inline(always)]
+    pub fn first_blocks(&self) -> &RowBlocks {
+        &self.columns.first
+    }
+
     /// Takes a frame of the stream: its blocks go into their columns, in this lane.
     #[inline(always)]
     pub fn take<C: Blocks>(&mut self, stream: usize, lane: usize, blocks: &C, quality: u8)

@@ -11,7 +11,8 @@ use crate::{
 };
 use arrayvec::ArrayVec;
 use pdc_open_row::{
-    Block, Blocks, Body, Cut, DueRow, Listed, Part, Places, copy_items, falses, numbers_rise,
+    Block, Blocks, Body, Cut, DueRow, Listed, Part, Places, RowBlocks, copy_items, falses,
+    numbers_rise,
 };
 use std::alloc::{AllocError, Global};
 use std::marker::Model;
@@ -233,6 +234,16 @@ impl Table for RingTable {
             &mut closed.instants,
             row,
         )
+    }
+
+    #[inline(always)]
+    fn first_blocks(&self, instant: u64) -> Option<&RowBlocks> {
+        let row = self.rows.places.item(self.circle.place_of(instant));
+        if row.instant() == instant {
+            Some(row.first_blocks())
+        } else {
+            None
+        }
     }
 
     fn next_due(&self) -> Option<u64> {

@@ -20,7 +20,7 @@ use crate::{
     MAX_COLUMNS, MAX_LANES, MAX_WINDOW, MIN_WINDOW, PutOutcome, RowLayout, WaitRule, cut_bodies,
     new_room,
 };
-use pdc_open_row::{Block, Body, Cut, DueRow, Part};
+use pdc_open_row::{Block, Body, Cut, DueRow, Part, RowBlocks};
 use std::alloc::{AllocError, Global};
 
 /// A table that aligns the streams of a concentrator by instant.
@@ -212,6 +212,13 @@ pub trait Table: Drop {
             }
             None => false,
         }
+    }
+
+    /// The blocks that lie in lane 0 of an instant, whether they are held or not, if there are any: for a look whether those of a frame are the
+    /// same. Which they are is left open.
+    fn first_blocks(&self, instant: u64) -> Option<&RowBlocks> {
+        let _ = instant;
+        None
     }
 
     /// The instant of the lowest closed row that was not popped.
