@@ -32,9 +32,9 @@ pub use in_force::sections_in_force;
 pub use laws::{columns_stand, others_are_left};
 pub use layout::append_layout_frame;
 pub use pdc_arrival::{
-    Arrival, Buffer, Claim, ClaimedData, ColumnSection, Counts, DueRow, Frame, MAX_PMUS,
-    MergerSettings, Outcome, Output, Reading, Refusal, Section, SectionView, Settings, Stamp,
-    arrival_from_node, claim_from_node, hear_from_node, hear_from_pmu, read_from_node,
+    Arrival, Buffer, Claim, ClaimedData, ColumnSection, Counts, DueRow, Frame, FrameFault,
+    MAX_PMUS, MergerSettings, Outcome, Output, Reading, Refusal, Section, SectionView, Settings,
+    Stamp, arrival_from_node, claim_from_node, hear_from_node, hear_from_pmu, read_from_node,
     read_from_pmu,
 };
 pub use pdc_table::{CheckedFront, copy_block, front_of};
