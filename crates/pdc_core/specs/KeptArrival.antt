@@ -1,5 +1,5 @@
 -- What contracts see of an arrival that was kept.
-use Rattle.std.specs.Prelude.{◌≡◌, ◌==◌, ℕ, Bool, true, false, List, length, map, nat_le, option_map}
+use Rattle.std.specs.Prelude.{◌≡◌, ◌==◌, ℕ, Bool, true, false, List, None, Option, Some, length, map, nat_le, option_map}
 use Rattle.pdc_align.specs.pdc_cfg.Section.{SectionFields, fields_of_section}
 use Rattle.pdc_core.specs.declared.payload.Payload.{Payload}
 use Rattle.pdc_core.specs.declared.payload.Payload.TheVariants as payload
@@ -8,7 +8,9 @@ use Rattle.pdc_core.specs.declared.kept_layout.KeptSection.{KeptSection}
 use Rattle.pdc_core.specs.declared.kept_arrival.KeptArrival.{KeptArrival as KeptArrivalData}
 use Rattle.pdc_core.specs.declared.kept_arrival.KeptArrival.TheVariants as taken
 use Rattle.pdc_align.specs.pdc_life.Arrival.{Arrival, BytesRefused, Data, Layout}
+use Rattle.pdc_align.specs.pdc_arrival.Claimed.{claimed_data}
 use Rattle.pdc_align.specs.pdc_arrival.Views.{stamp_view}
+use Rattle.pdc_align.specs.pdc_frame.declared.claim.Claim.{Claim}
 use Rattle.pdc_core.specs.Brings.{Brings}
 use Rattle.pdc_memory.specs.Asking.{WasRefused}
 
@@ -25,9 +27,14 @@ can_hold (payload.Long own) bytes = length bytes == length own.bytes.items
 abbrev pub kept_part : KeptSection → ℕ × SectionFields
 kept_part kept = (kept.column, fields_of_section kept.section)
 
+-- data; where its check word is not computed yet, what it is then
+abbrev pub data_view : (instant quality : ℕ) → List ℕ → Option Claim → Arrival
+data_view instant quality payload None = Data instant quality payload
+data_view instant quality payload (Some claim) = claimed_data instant quality payload claim
+
 abbrev pub taken_view : KeptArrivalData → Arrival
 taken_view (taken.BytesRefused refusal) = BytesRefused refusal
-taken_view (taken.Data instant quality bytes) = Data instant quality (bytes_of bytes)
+taken_view (taken.Data instant quality bytes claim) = data_view instant quality (bytes_of bytes) claim
 taken_view (taken.Layout kept) = Layout (option_map stamp_view kept.stamp) (map kept_part kept.sections.items)
 
 -- a copy of it lies in place: refused bytes, and data that is no longer than a PMU's

@@ -1,7 +1,8 @@
 //! What arrived, with its bytes kept: it can be handed on where what was read would not live.
-ghost use Rattle.std.specs.Prelude.{◌≡◌, ◌≤◌, [], ◌∷◌, IfOk, IsOk, None, OnErr, OnOk, length, map, true};
+ghost use Rattle.std.specs.Prelude.{◌≡◌, ◌≤◌, [], ◌∷◌, IfOk, IsOk, None, OnErr, OnOk, false, length, map, true};
 ghost use Rattle.pdc_core.specs.KeptArrival.{CameIn, kept_part, taken_view, takes_no_memory};
-ghost use Rattle.pdc_core.specs.KeptArrival.{wanted_of};
+ghost use Rattle.pdc_core.specs.KeptArrival.{data_view, wanted_of};
+ghost use Rattle.pdc_align.specs.pdc_arrival.Claimed.{claimed_view};
 ghost use Rattle.pdc_memory.specs.Asking.{WasRefused};
 ghost use Rattle.pdc_align.specs.pdc_arrival.Views.{arrival_view, section_part};
 ghost use Rattle.pdc_align.specs.pdc_life.Arrival.{Data, Layout};
@@ -10,7 +11,9 @@ ghost use Rattle.pdc_align.specs.pdc_life.Views.{arrival_view as reading_view};
 
 use crate::{KeptLayout, KeptSection, Payload, SHORT_PAYLOAD, ShortPayload};
 use arrayvec::ArrayVec;
-use pdc_align::{Arrival, ColumnSection, MAX_PMUS, Reading, Refusal, SectionView};
+use pdc_align::{
+    Arrival, Claim, ClaimedData, ColumnSection, FrameFault, MAX_PMUS, Reading, Refusal, SectionView,
+};
 use pdc_memory::Held;
 use std::alloc::{AllocError, Global};
 
@@ -27,6 +30,8 @@ pub enum KeptArrival {
         quality: u8,
         /// What stands between FRACSEC and CHK.
         payload: Payload,
+        /// What tells whether the check word is right, where it is not computed yet: where it is not, these are bytes that are refused for it.
+        claim: Option<Claim>,
     },
     /// A configuration of the stream.
     Layout(KeptLayout),
@@ -98,6 +103,22 @@ fn lent(sections: &[KeptSection]) -> ArrayVec<ColumnSection<'_>, MAX_PMUS>
     parts
 }
 
+/// Data, or bytes that are refused, where a check word that is not computed yet is wrong.
+fn data_view<'a>(instant: u64, quality: u8, payload: &'a [u8], claim: &Option<Claim>) -> Arrival<'a>
+    ensures { arrival_view result ≡ data_view instant quality payload.now claim.now }
+{
+    if let Some(claim) = claim {
+        if !claim.is_right(payload) {
+            return Arrival::BytesRefused(Refusal::NoFrame(FrameFault::BadCheck));
+        }
+    }
+    Arrival::Data {
+        instant,
+        quality,
+        payload,
+    }
+}
+
 impl KeptArrival {
     /// A copy of what arrived.
     ///
@@ -159,6 +180,7 @@ impl KeptArrival {
             instant,
             quality,
             payload: Payload::of(alloc, payload)?,
+            claim: None,
         })
     }
 
@@ -171,6 +193,7 @@ impl KeptArrival {
             instant: 0,
             quality: 0,
             payload: Payload::Short(ShortPayload::new()),
+            claim: None,
         }
     }
 
@@ -198,11 +221,13 @@ impl KeptArrival {
             instant: own_instant,
             quality: own_quality,
             payload: own,
+            claim,
         } = self
         {
             if own.set(payload) {
                 *own_instant = instant;
                 *own_quality = quality;
+                *claim = None;
                 return Ok(());
             }
         }
@@ -215,6 +240,29 @@ impl KeptArrival {
         self.set_reading(alloc, 0, &reading)
     }
 
+    /// Makes this data whose check word is not computed yet, where it can be written over what is here. Whether it can; else it stays as it was.
+    #[inline(always)]
+    pub fn set_claimed(&mut self, claimed: &ClaimedData<'_>) -> bool
+        ensures same { result ≡ true → taken_view self.new ≡ claimed_view claimed.now }
+        ensures none { result ≡ false → self.new ≡ self.old }
+    {
+        if let KeptArrival::Data {
+            instant,
+            quality,
+            payload,
+            claim,
+        } = self
+        {
+            if payload.set(claimed.payload) {
+                *instant = claimed.instant;
+                *quality = claimed.quality;
+                *claim = Some(claimed.claim);
+                return true;
+            }
+        }
+        false
+    }
+
     /// Keeps with data the front and the check word of the frame in which it came: so the check word follows of what goes out for it. It shows
     /// what it showed.
     #[inline(always)]
@@ -222,8 +270,10 @@ impl KeptArrival {
         requires { CameIn self.old frame.now }
         ensures { taken_view self.new ≡ taken_view self.old }
     {
-        if let KeptArrival::Data { payload, .. } = self {
-            payload.know_frame(frame);
+        if let KeptArrival::Data { payload, claim, .. } = self {
+            if claim.is_none() {
+                payload.know_frame(frame);
+            }
         }
     }
 
@@ -256,6 +306,7 @@ impl KeptArrival {
                     instant: *instant,
                     quality: *quality,
                     payload: Payload::in_place(payload),
+                    claim: None,
                 };
             }
             _ => *self = KeptArrival::keep_reading(alloc, column, reading)?,
@@ -298,11 +349,8 @@ impl KeptArrival {
                 instant,
                 quality,
                 payload,
-            } => Arrival::Data {
-                instant: *instant,
-                quality: *quality,
-                payload: payload.as_slice(),
-            },
+                claim,
+            } => data_view(*instant, *quality, payload.as_slice(), claim),
             KeptArrival::Layout(layout) => Arrival::Layout {
                 stamp: layout.stamp,
                 sections: lent(layout.sections.as_slice()),

@@ -1,5 +1,5 @@
 //! Settings by which bytes are read.
-ghost use Rattle.std.specs.Prelude.{◌≡◌, ◌*◌, ◌<◌, ℕ, Bool, IfOk, IsOk, List, OnErr, OnOk, length, true};
+ghost use Rattle.std.specs.Prelude.{◌≡◌, ◌*◌, ◌<◌, ℕ, Bool, IfOk, IsOk, List, OnErr, OnOk, false, length, true};
 ghost use Rattle.pdc_core.specs.Fits.{fits_merger, fits_node};
 ghost use Rattle.pdc_align.specs.pdc_arrival.Heard.{HearsForMerger};
 ghost use Rattle.pdc_core.specs.Brings.{Brings};
@@ -13,8 +13,8 @@ ghost use Rattle.pdc_align.specs.pdc_arrival.declared.from_node.TheConstants.{NO
 
 use crate::KeptArrival;
 use pdc_align::{
-    Arrival, Frame, MergerSettings, Reading, Settings, arrival_from_node, hear_from_node,
-    hear_from_pmu, read_from_node, read_from_pmu,
+    Arrival, Frame, MergerSettings, Reading, Settings, arrival_from_node, claim_from_node,
+    hear_from_node, hear_from_pmu, read_from_node, read_from_pmu,
 };
 use std::alloc::{AllocError, Global};
 
@@ -141,14 +141,61 @@ impl Reads for MergerSettings {
         bytes: &[u8],
         kept: &mut KeptArrival,
     ) -> Result<(), AllocError> {
-        match hear_from_node(self, stream, bytes) {
-            Reading::Data {
-                instant,
-                quality,
-                payload,
-            } => keep_data(alloc, stream, instant, quality, payload, bytes, kept),
-            heard => keep_heard(self, alloc, stream, heard, kept),
+        if stream == 0 {
+            return keep_checked(self, alloc, stream, bytes, kept);
         }
+        if keep_claimed(self, stream, bytes, kept) {
+            return Ok(());
+        }
+        keep_checked(self, alloc, stream, bytes, kept)
+    }
+}
+
+/// What the bytes say that came from a node, kept here. Their check word is computed.
+#[inline(always)]
+fn keep_checked(
+    settings: &MergerSettings,
+    alloc: Global,
+    stream: usize,
+    bytes: &[u8],
+    kept: &mut KeptArrival,
+) -> Result<(), AllocError>
+    requires { stream < NODES }
+    ensures says { OnOk result (Says (OfMerger settings.now) stream bytes.now
+        (taken_view kept.new)) }
+    ensures refused { OnErr result (CopyWasRefused (Says (OfMerger settings.now) stream
+        bytes.now)) }
+    ensures in_place { IsMadeInPlace (Says (OfMerger settings.now) stream bytes.now)
+        (IsOk result) }
+    ensures err { OnErr result (kept.new ≡ kept.old) }
+{
+    match hear_from_node(settings, stream, bytes) {
+        Reading::Data {
+            instant,
+            quality,
+            payload,
+        } => keep_data(alloc, stream, instant, quality, payload, bytes, kept),
+        heard => keep_heard(settings, alloc, stream, heard, kept),
+    }
+}
+
+/// Data of node B, kept here, where it can be written over what is here. Its check word is not computed: mostly it follows from that of node A's
+/// frame, which brought the same blocks before. Whether it is kept.
+#[inline(always)]
+fn keep_claimed(
+    settings: &MergerSettings,
+    stream: usize,
+    bytes: &[u8],
+    kept: &mut KeptArrival,
+) -> bool
+    requires { stream < NODES }
+    ensures says { result ≡ true →
+        Says (OfMerger settings.now) stream bytes.now (taken_view kept.new) }
+    ensures none { result ≡ false → kept.new ≡ kept.old }
+{
+    match claim_from_node(settings, stream, bytes) {
+        Some(claimed) => kept.set_claimed(&claimed),
+        None => false,
     }
 }
 

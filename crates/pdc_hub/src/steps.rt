@@ -152,17 +152,20 @@ fn copy_short(own: &mut KeptArrival, other: &KeptArrival) -> bool
         instant,
         quality,
         payload: Payload::Short(bytes),
+        claim,
     } = other
     {
         if let KeptArrival::Data {
             instant: own_instant,
             quality: own_quality,
             payload,
+            claim: own_claim,
         } = own
         {
             if write_in_place(payload, bytes) {
                 *own_instant = *instant;
                 *own_quality = *quality;
+                *own_claim = *claim;
                 return true;
             }
         }

@@ -229,7 +229,11 @@ impl<T: Table> Core for Node<T> {
                 instant,
                 quality,
                 payload,
-            } => self.arrive_data(stream, *instant, *quality, payload.as_slice()),
+                claim,
+            } => match claim {
+                None => self.arrive_data(stream, *instant, *quality, payload.as_slice()),
+                Some(_) => self.arrive_whole(stream, taken),
+            },
             KeptArrival::BytesRefused(refusal) => self.arrive_refused(*refusal),
             KeptArrival::Layout(_) => self.arrive_whole(stream, taken),
         }
