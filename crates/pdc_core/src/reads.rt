@@ -18,6 +18,10 @@ use pdc_align::{
 };
 use std::alloc::{AllocError, Global};
 
+/// Up to so many bytes a frame of node B is kept before its check word is computed. Of longer ones to compare the blocks takes as long as to
+/// compute it, since that takes 128 bytes a step.
+const MAX_CLAIMED: usize = 1024;
+
 /// Settings by which the bytes of a datagram are read, whatever came before. It takes no memory.
 pub trait Reads {
     // so many streams arrive;
@@ -179,8 +183,8 @@ fn keep_checked(
     }
 }
 
-/// Data of node B, kept here, where it can be written over what is here. Its check word is not computed: mostly it follows from that of node A's
-/// frame, which brought the same blocks before. Whether it is kept.
+/// Data of node B, kept here, where it can be written over what is here, and its frame is not long. Its check word is not computed: mostly it
+/// follows from that of node A's frame, which brought the same blocks before. Whether it is kept.
 #[inline(always)]
 fn keep_claimed(
     settings: &MergerSettings,
@@ -193,6 +197,9 @@ fn keep_claimed(
         Says (OfMerger settings.now) stream bytes.now (taken_view kept.new) }
     ensures none { result ≡ false → kept.new ≡ kept.old }
 {
+    if bytes.len() > MAX_CLAIMED {
+        return false;
+    }
     match claim_from_node(settings, stream, bytes) {
         Some(claimed) => kept.set_claimed(&claimed),
         None => false,
