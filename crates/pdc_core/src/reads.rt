@@ -20,7 +20,7 @@ use std::alloc::{AllocError, Global};
 
 /// Up to so many bytes a frame of node B is kept before its check word is computed. Of longer ones to compare the blocks takes as long as to
 /// compute it, since that takes 128 bytes a step.
-const MAX_CLAIMED: usize = 1024;
+const MAX_CLAIMED: usize = 2048;
 
 /// Settings by which the bytes of a datagram are read, whatever came before. It takes no memory.
 pub trait Reads {
