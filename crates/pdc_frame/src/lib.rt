@@ -28,6 +28,7 @@ mod fronts;
 mod header;
 mod held;
 mod id;
+mod last_tag;
 mod laws;
 mod limits;
 mod nearest;
@@ -51,6 +52,7 @@ pub use framer::Framer;
 pub use fronts::front_of;
 pub use header::{MAX_TEXT, read_header, write_header};
 pub use id::StreamId;
+pub use last_tag::LastTag;
 pub use laws::{
     frames_are_read_in_one_way, frames_are_written_in_parts, spellings_stand_apart,
     streams_split_in_one_way,

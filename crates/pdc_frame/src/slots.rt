@@ -3,7 +3,7 @@ ghost use Rattle.std.specs.Prelude.{◌≡◌, ℕ, ◌+◌, ◌*◌, ◌<◌, �
 ghost use Rattle.pdc_frame.specs.Slot.{IsSlot, slot_of};
 ghost use Rattle.pdc_frame.specs.Instant.{IsInstant, instant_of};
 
-use crate::nearest::nearest;
+use crate::nearest::{MILLION, nearest, nearest_million};
 use crate::tag_limits::{COUNT_LIMIT, MAX_RATE, SECONDS};
 
 /// Which frame of its second the tag `frac`/`time_base` stands for, at `rate` frames a second, counted from 0.
@@ -26,7 +26,11 @@ pub fn slot(frac: u32, time_base: u32, rate: u32) -> Option<u32>
         return None;
     }
     let (tag, step) = (u64::from(frac) * u64::from(rate), u64::from(time_base));
-    let k = nearest(tag, step);
+    let k = if time_base == MILLION {
+        nearest_million(tag)
+    } else {
+        nearest(tag, step)
+    };
     if tag.abs_diff(k * step) < u64::from(rate) {
         Some(k as u32)
     } else {
