@@ -5,7 +5,7 @@ ghost use Rattle.pdc_row.specs.RowView.{row_view};
 ghost use Rattle.pdc_publisher.specs.Published.{IsOfSomeRow, IsRowFrame, no_row};
 
 use arrayvec::ArrayVec;
-use pdc_row::{DueRow, FrontDifference, MAX_ROW_LEN, Output, RowBlocks, append_row, write_row};
+use pdc_row::{DueRow, LastRow, MAX_ROW_LEN, Output, RowBlocks, append_row, write_row};
 
 /// The data frame of a row that was published (C37.118.2-2011, 6.3).
 #[derive(Drop)]
@@ -59,20 +59,15 @@ pub fn frame_of(output: &Output, row: &DueRow) -> Published
     }
 }
 
-/// Writes the frame of a row over this one. What fronts differ in is kept from row to row.
-pub fn write_over(
-    output: &Output,
-    row: &DueRow,
-    frame: &mut Published,
-    difference: &mut FrontDifference,
-)
+/// Writes the frame of a row over this one. What helps the next one is kept in `last`.
+pub fn write_over(output: &Output, row: &DueRow, frame: &mut Published, last: &mut LastRow)
     requires { row.now.instant < SECONDS * output.now.rate }
     ensures output { frame.new.output ≡ output.now }
     ensures frame { IsRowFrame frame.new.instant frame.new.start frame.new.change
         frame.new.bytes.items output.now (row_view row.now) }
 {
     row.blocks.are_whole();
-    write_row(output, row, &mut frame.bytes, difference);
+    write_row(output, row, &mut frame.bytes, last);
     frame.output = *output;
     frame.instant = row.instant;
     frame.start = row.start;

@@ -15,7 +15,7 @@ use crate::fault::PublishFault;
 use crate::published::{Published, frame_of, write_over};
 use pdc_frame::Buffer;
 use pdc_mark::{COUNTS, Mark, MarkFault};
-use pdc_row::{DueRow, FrontDifference, Output};
+use pdc_row::{DueRow, LastRow, Output};
 
 /// The most instants that settings may reserve ahead.
 pub const MAX_LEAD: u16 = 1000;
@@ -31,8 +31,8 @@ pub struct Publisher<M: Mark> {
     pub(crate) lead: u16,
     pub(crate) last: u64,
     pub(crate) has_failed: bool,
-    /// What the fronts differ in of the frames that go out and of those that brought their blocks.
-    difference: FrontDifference,
+    /// What is kept of the row that was written last.
+    row: LastRow,
     pub ghost covered: { last ≤ (M.stored mark).floor },
 }
 
@@ -55,7 +55,7 @@ impl<M: Mark> Publisher<M> {
             lead,
             last: floor,
             has_failed: false,
-            difference: FrontDifference::new(),
+            row: LastRow::new(),
         }
     }
 
@@ -295,7 +295,7 @@ impl<M: Mark> Publisher<M> {
         if reserved.is_err() {
             return Err(MarkFault::Device);
         }
-        write_over(&self.output, row, frame, &mut self.difference);
+        write_over(&self.output, row, frame, &mut self.row);
         self.last = row.instant;
         Ok(())
     }

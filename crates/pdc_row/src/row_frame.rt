@@ -12,6 +12,7 @@ ghost use Rattle.pdc_row.specs.RowView.{row_view};
 ghost use Rattle.pdc_row.specs.Layout.{front_of_row, own_block, row_payload, row_fields, wire_of};
 
 use crate::due_row::DueRow;
+use crate::last_row::LastRow;
 use crate::output::Output;
 use crate::stamp::stamp_words;
 use arrayvec::ArrayVec;
@@ -63,9 +64,11 @@ fn append_payload<B: Buffer>(row: &DueRow, out: &mut B)
     out.append_bytes(row.blocks.bytes());
 }
 
-/// The fields of the frame, without its payload.
-fn head_of<'a>(output: &'a Output, row: &DueRow) -> Frame<'a>
-    requires { row.now.instant < SECONDS * output.now.rate }
+/// The fields of the frame, without its payload, with the tag of its instant.
+#[inline(always)]
+fn head_of<'a>(output: &'a Output, row: &DueRow, tag: (u32, u32)) -> Frame<'a>
+    requires tag { tag ≡ tag_of row.now.instant output.now.time_base output.now.rate }
+    requires count { tag.1 < output.now.time_base }
     ensures fields { fields_of result ≡ record {
       kind = DataFrame;
       version = 2;
@@ -79,7 +82,7 @@ fn head_of<'a>(output: &'a Output, row: &DueRow) -> Frame<'a>
         tag_of row.now.instant output.now.time_base output.now.rate }
     ensures count { result.frac < output.now.time_base }
 {
-    let (soc, frac) = tag_of(row.instant, output.time_base, u32::from(output.rate));
+    let (soc, frac) = tag;
     Frame {
         kind: Kind::DataFrame,
         version: 2,
@@ -119,7 +122,8 @@ pub fn append_row<B: Buffer>(output: &Output, row: &DueRow, out: &mut B) -> Resu
     ensures most { length (wire_of output.now (row_view row.now)) ≤ MAX_ROW_LEN }
 {
     frames_are_written_in_parts();
-    let head = head_of(output, row);
+    let tag = tag_of(row.instant, output.time_base, u32::from(output.rate));
+    let head = head_of(output, row, tag);
     let start = out.content().len();
     begin_frame(&head, payload_len(row), out)?;
     append_payload(row, out);
@@ -147,14 +151,15 @@ fn write_payload(row: &DueRow, bytes: &mut [u8])
     blocks.copy_from_slice(row.blocks.bytes());
 }
 
-/// Writes the data frame of the row over these bytes.
-fn write_over(output: &Output, row: &DueRow, bytes: &mut [u8])
-    requires instant { row.now.instant < SECONDS * output.now.rate }
+/// Writes the data frame of the row, whose tag this is, over these bytes.
+fn write_over(output: &Output, row: &DueRow, tag: (u32, u32), bytes: &mut [u8])
+    requires tag { tag ≡ tag_of row.now.instant output.now.time_base output.now.rate }
+    requires count { tag.1 < output.now.time_base }
     requires size { length bytes.old ≡ OWN_BLOCK_LEN + length (bytes_of row.now.blocks) + OVERHEAD }
     requires most { length bytes.old ≤ MAX_ROW_LEN }
     ensures { bytes.new ≡ wire_of output.now (row_view row.now) }
 {
-    let head = head_of(output, row);
+    let head = head_of(output, row, tag);
     let len = bytes.len() - OVERHEAD;
     let (front, rest) = bytes.split_at_mut(HEADER_LEN);
     let (payload, back) = rest.split_at_mut(len);
@@ -164,11 +169,12 @@ fn write_over(output: &Output, row: &DueRow, bytes: &mut [u8])
 
 /// Writes what stands before the blocks in the data frame of the row over these bytes: the fields, and the own block.
 #[inline(always)]
-fn write_front(output: &Output, row: &DueRow, front: &mut [u8; FRONT_LEN])
-    requires { row.now.instant < SECONDS * output.now.rate }
+fn write_front(output: &Output, row: &DueRow, tag: (u32, u32), front: &mut [u8; FRONT_LEN])
+    requires tag { tag ≡ tag_of row.now.instant output.now.time_base output.now.rate }
+    requires count { tag.1 < output.now.time_base }
     ensures { front.new ≡ front_of_row output.now (row_view row.now) }
 {
-    let head = head_of(output, row);
+    let head = head_of(output, row, tag);
     let (fields, own) = front.split_at_mut(HEADER_LEN);
     write_fields(&head, payload_len(row), fields);
     write_own_block(row.start, row.change, own);
@@ -179,11 +185,13 @@ fn write_front(output: &Output, row: &DueRow, front: &mut [u8; FRONT_LEN])
 fn write_behind(
     output: &Output,
     row: &DueRow,
+    tag: (u32, u32),
     known: &CheckedFront,
     bytes: &mut [u8],
     difference: &mut FrontDifference,
 )
-    requires instant { row.now.instant < SECONDS * output.now.rate }
+    requires tag { tag ≡ tag_of row.now.instant output.now.time_base output.now.rate }
+    requires count { tag.1 < output.now.time_base }
     requires size { length bytes.old ≡ OWN_BLOCK_LEN + length (bytes_of row.now.blocks) + OVERHEAD }
     requires known { known.now.check ≡
         check_word_of (known.now.bytes ++ bytes_of row.now.blocks) }
@@ -193,7 +201,7 @@ fn write_behind(
         return;
     };
     let (blocks, back) = rest.split_at_mut(row.blocks.bytes().len());
-    write_front(output, row, front);
+    write_front(output, row, tag, front);
     blocks.copy_from_slice(row.blocks.bytes());
     let check = difference.check_behind(known, front, blocks);
     back.copy_from_slice(&check.to_be_bytes());
@@ -211,12 +219,12 @@ fn resize(bytes: &mut ArrayVec<u8, MAX_ROW_LEN>, len: usize)
 
 /// Makes these bytes the data frame of the row, as [`append_row`] appends it. Where they are as many as those of the frame, each is written
 /// over once. Where its blocks came in one frame whose check word is known, that of this frame follows from it, and from what the fronts of
-/// both differ in: `difference` is kept from row to row. It takes no memory.
+/// both differ in; that and the tag are kept from row to row. It takes no memory.
 pub fn write_row(
     output: &Output,
     row: &DueRow,
     bytes: &mut ArrayVec<u8, MAX_ROW_LEN>,
-    difference: &mut FrontDifference,
+    last: &mut LastRow,
 )
     requires { row.now.instant < SECONDS * output.now.rate }
     ensures { bytes.new.items ≡ wire_of output.now (row_view row.now) }
@@ -225,8 +233,12 @@ pub fn write_row(
     if bytes.len() != len {
         resize(bytes, len);
     }
+    let tag = last
+        .tag
+        .tag_of(row.instant, output.time_base, u32::from(output.rate));
+    let bytes = bytes.as_mut_slice();
     match row.blocks.sent() {
-        Some(known) => write_behind(output, row, known, bytes.as_mut_slice(), difference),
-        None => write_over(output, row, bytes.as_mut_slice()),
+        Some(known) => write_behind(output, row, tag, known, bytes, &mut last.difference),
+        None => write_over(output, row, tag, bytes),
     }
 }
