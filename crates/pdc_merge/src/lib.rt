@@ -9,6 +9,7 @@
 #![tactic(auto)]
 
 mod answering;
+mod arriving;
 mod cells;
 mod held_layout;
 mod in_force;
