@@ -115,7 +115,13 @@ impl Reads for Settings {
                 quality,
                 payload,
             } => kept.set_data(alloc, instant, quality, payload),
-            reading => kept.set_reading(alloc, stream, &reading),
+            // Each of the others is made anew: so what was read of data needs no place in memory.
+            Reading::BytesRefused(refusal) => {
+                kept.set_reading(alloc, stream, &Reading::BytesRefused(refusal))
+            }
+            Reading::Configuration(section) => {
+                kept.set_reading(alloc, stream, &Reading::Configuration(section))
+            }
         }
     }
 }
@@ -179,7 +185,19 @@ fn keep_checked(
             quality,
             payload,
         } => keep_data(alloc, stream, instant, quality, payload, bytes, kept),
-        heard => keep_heard(settings, alloc, stream, heard, kept),
+        // Each of the others is made anew: so what was heard of data needs no place in memory.
+        Reading::BytesRefused(refusal) => {
+            keep_heard(
+                settings,
+                alloc,
+                stream,
+                Reading::BytesRefused(refusal),
+                kept,
+            )
+        }
+        Reading::Configuration(frame) => {
+            keep_heard(settings, alloc, stream, Reading::Configuration(frame), kept)
+        }
     }
 }
 

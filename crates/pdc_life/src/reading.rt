@@ -1,9 +1,10 @@
 //! What bytes say that arrived for a PMU.
-ghost use Rattle.std.specs.Prelude.{◌≡◌, ℕ, List};
+ghost use Rattle.std.specs.Prelude.{◌≡◌, ℕ, IfErr, IfOk, List};
 ghost use Rattle.pdc_row.specs.pdc_frame.Frame.{fields_of};
 ghost use Rattle.pdc_row.specs.pdc_frame.declared.frame.Kind.TheVariants.{DataFrame, Cfg2};
 ghost use Rattle.pdc_row.specs.pdc_cfg.Config.{config_fields_of};
-ghost use Rattle.pdc_life.specs.NodeReading.{Reads, stream_of};
+ghost use Rattle.pdc_row.specs.pdc_cfg.Section.{fields_of_view};
+ghost use Rattle.pdc_life.specs.NodeReading.{IsRefused, IsValid, Reads, stream_of};
 ghost use Rattle.pdc_life.specs.Reading.{HasConfig, IsOfStream};
 ghost use Rattle.pdc_life.specs.Views.{arrival_view};
 
@@ -50,7 +51,10 @@ pub fn read_arrival<'a>(
     }
     match frame.kind {
         Kind::DataFrame => read_data(settings, pmu, &frame),
-        Kind::Cfg2 => read_configuration(settings, pmu, frame),
+        Kind::Cfg2 => match read_configuration(settings, pmu, frame) {
+            Ok(section) => Reading::Configuration(section),
+            Err(refusal) => Reading::BytesRefused(refusal),
+        },
         _ => Reading::BytesRefused(Refusal::NoConfiguration(CfgFault::WrongKind)),
     }
 }
@@ -73,46 +77,62 @@ fn read_data<'a>(settings: &Settings, pmu: &Pmu, frame: &Frame<'a>) -> Reading<'
     }
 }
 
-/// What a CFG-2 frame of the PMU's stream says. It is seldom, and so a call of its own, with a frame of its own: that of data stays in registers.
+/// The section that a CFG-2 frame of the PMU's stream says. It is seldom, and so a call of its own, with a frame of its own: that of data stays in
+/// registers, and so does what is read of it.
+///
+/// # Errors
+///
+/// Why the bytes are refused.
 #[inline(never)]
 fn read_configuration<'a>(
     settings: &Settings,
     pmu: &Pmu,
     frame: Frame<'a>,
-) -> Reading<'a, SectionView<'a>>
-    ensures { (p : ℕ) (bytes : List ℕ) →
+) -> Result<SectionView<'a>, Refusal>
+    ensures valid { (bytes : List ℕ) →
         IsOfStream (stream_of settings.now pmu.now) bytes (fields_of frame.entry) →
         frame.entry.kind ≡ Cfg2
-        → Reads settings.now p pmu.now bytes (arrival_view p result) }
+        → IfOk result (λ section. IsValid settings.now pmu.now bytes (fields_of_view section)) }
+    ensures refused { (bytes : List ℕ) →
+        IsOfStream (stream_of settings.now pmu.now) bytes (fields_of frame.entry) →
+        frame.entry.kind ≡ Cfg2
+        → IfErr result (IsRefused settings.now pmu.now bytes) }
 {
     match read_config(&frame) {
         Ok(config) => read_section(settings, pmu, &config),
-        Err(fault) => Reading::BytesRefused(Refusal::NoConfiguration(fault)),
+        Err(fault) => Err(Refusal::NoConfiguration(fault)),
     }
 }
 
-/// What a configuration of the PMU's stream says.
+/// The section that a configuration of the PMU's stream says.
+///
+/// # Errors
+///
+/// Why the bytes are refused.
 fn read_section<'a>(
     settings: &Settings,
     pmu: &Pmu,
     config: &ConfigView<'a>,
-) -> Reading<'a, SectionView<'a>>
-    ensures { (p : ℕ) (bytes : List ℕ) →
+) -> Result<SectionView<'a>, Refusal>
+    ensures valid { (bytes : List ℕ) →
         HasConfig (stream_of settings.now pmu.now) bytes (config_fields_of config.now)
-        → Reads settings.now p pmu.now bytes (arrival_view p result) }
+        → IfOk result (λ section. IsValid settings.now pmu.now bytes (fields_of_view section)) }
+    ensures refused { (bytes : List ℕ) →
+        HasConfig (stream_of settings.now pmu.now) bytes (config_fields_of config.now)
+        → IfErr result (IsRefused settings.now pmu.now bytes) }
 {
     if config.sections.len() != 1 {
-        return Reading::BytesRefused(Refusal::NoConfiguration(CfgFault::TooMany));
+        return Err(Refusal::NoConfiguration(CfgFault::TooMany));
     }
     if config.time_base != pmu.time_base {
-        return Reading::BytesRefused(Refusal::WrongTimeBase);
+        return Err(Refusal::WrongTimeBase);
     }
     if config.rate.cast_unsigned() != settings.output.rate {
-        return Reading::BytesRefused(Refusal::WrongRate);
+        return Err(Refusal::WrongRate);
     }
     let section = config.sections[0];
     if section.source != pmu.source {
-        return Reading::BytesRefused(Refusal::WrongSource);
+        return Err(Refusal::WrongSource);
     }
-    Reading::Configuration(section)
+    Ok(section)
 }

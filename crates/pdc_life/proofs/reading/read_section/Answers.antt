@@ -10,8 +10,8 @@ only_one [] s len e = absurd (omega (arith, len))
 only_one (x ∷ []) s len e = ap (λ (t : SectionView). fields_of_view t ∷ []) (sym e)
 only_one (x ∷ y ∷ sections) s len e = absurd (omega (arith, len))
 
-pub returns-then-section-pmu : goal.returns-then-section-pmu
-returns-then-section-pmu c p bytes has = record {
+pub returns-then-section-pmu-clause-refused : goal.returns-then-section-pmu-clause-refused
+returns-then-section-pmu-clause-refused c bytes has = record {
   config = config_fields_of c.args.config.now;
   base = record { has = has; time_base = c.if-config-pmu.false; rate = search rules };
   section = fields_of_view c.index-deref-0.result;
