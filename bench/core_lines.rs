@@ -41,24 +41,24 @@ fn settings_text(id: u16, plan: Plan) -> String {
     )
 }
 
-fn node_text(plan: Plan) -> String {
+fn node_text(plan: Plan, time_base: u32) -> String {
     let mut text = settings_text(NODES[0], plan);
     for id in 1..=PMUS {
         let _ = write!(
             text,
-            "[[pmu]]\nstream = {id}\ntime_base = {TIME_BASE}\nport = {}\n",
+            "[[pmu]]\nstream = {id}\ntime_base = {time_base}\nport = {}\n",
             5000 + id
         );
     }
     text
 }
 
-fn node_settings(plan: Plan) -> cores::Settings {
+fn node_settings(plan: Plan, time_base: u32) -> cores::Settings {
     let pmus = (1..=PMUS as u16)
         .map(|id| Pmu {
             stream: id,
             source: id,
-            time_base: TIME_BASE,
+            time_base,
         })
         .collect();
     cores::Settings {
@@ -74,7 +74,8 @@ fn node_settings(plan: Plan) -> cores::Settings {
 
 /// A line of a node of 16 PMUs, from datagrams to published frames.
 fn node(mode: &mut Mode, name: String, shapes: &[Shape], plan: Plan, beside: Beside) {
-    let (text, settings) = (node_text(plan), node_settings(plan));
+    let base = beside.time_base();
+    let (text, settings) = (node_text(plan, base), node_settings(plan, base));
     let run = traffic::node_run(shapes, 2_048, beside);
     let Run { opening, whole } = &run;
     let of = |plain: fn(&cores::Settings, &Script, u64) -> u64| {
@@ -101,12 +102,12 @@ fn node(mode: &mut Mode, name: String, shapes: &[Shape], plan: Plan, beside: Bes
 
 const MERGER: u16 = 301;
 
-fn merger_text(plan: Plan) -> String {
+fn merger_text(plan: Plan, time_base: u32) -> String {
     let mut text = settings_text(MERGER, plan);
     for id in NODES {
         let _ = write!(
             text,
-            "[[node]]\nid = {id}\ntime_base = {TIME_BASE}\nport = {}\n",
+            "[[node]]\nid = {id}\ntime_base = {time_base}\nport = {}\n",
             4500 + id
         );
     }
@@ -116,16 +117,13 @@ fn merger_text(plan: Plan) -> String {
     text
 }
 
-fn merger_settings(plan: Plan) -> merging::Settings {
+fn merger_settings(plan: Plan, time_base: u32) -> merging::Settings {
     let output = Output {
         id: MERGER,
         rate: RATE,
         time_base: TIME_BASE,
     };
-    let nodes = NODES.map(|id| MergedNode {
-        id,
-        time_base: TIME_BASE,
-    });
+    let nodes = NODES.map(|id| MergedNode { id, time_base });
     merging::Settings {
         output,
         plan,
@@ -136,7 +134,8 @@ fn merger_settings(plan: Plan) -> merging::Settings {
 
 /// A line of the merger of two nodes and 16 PMUs, from datagrams to published frames.
 fn merger(mode: &mut Mode, name: String, shapes: &[Shape], plan: Plan, beside: Beside) {
-    let (text, settings) = (merger_text(plan), merger_settings(plan));
+    let base = beside.time_base();
+    let (text, settings) = (merger_text(plan, base), merger_settings(plan, base));
     let run = traffic::merger_run(shapes, 1_024, beside);
     let Run { opening, whole } = &run;
     let of = |plain: fn(&merging::Settings, &Script, u64) -> u64| {
@@ -218,21 +217,22 @@ const ABSENT: (&str, Beside) = ("one PMU in four absent", Beside::Absent);
 const LATE: (&str, Beside) = ("the second node a tick late", Beside::Late);
 const SECOND_FIRST: (&str, Beside) = ("the second node first", Beside::SecondFirst);
 const DIFFER: (&str, Beside) = ("one block in four differs", Beside::Differ);
+const OTHER_BASE: (&str, Beside) = ("another TIME_BASE comes in", Beside::OtherBase);
 
 /// Each cause of refusal is told apart alike.
 fn compare_refusals() {
     let plan = plan(8, WaitKind::Relative);
     let script = refusals::to_node(shape(8, 4, 1));
-    let settings = node_settings(plan);
+    let settings = node_settings(plan, TIME_BASE);
     let answers = [
-        ours::node(&node_text(plan), &script, FLOOR),
+        ours::node(&node_text(plan, TIME_BASE), &script, FLOOR),
         cores::run::<ByTables>(&settings, &script, FLOOR),
     ];
     assert_same("refusals of a node", &answers);
     let script = refusals::to_merger(&[shape(8, 4, 1); PMUS]);
-    let settings = merger_settings(plan);
+    let settings = merger_settings(plan, TIME_BASE);
     let answers = [
-        ours::merger(&merger_text(plan), &script, FLOOR),
+        ours::merger(&merger_text(plan, TIME_BASE), &script, FLOOR),
         merging::run::<ByTables>(&settings, &script, FLOOR),
     ];
     assert_same("refusals of the merger", &answers);
@@ -246,7 +246,7 @@ pub fn nodes(mode: &mut Mode) {
         "a node of 16 PMUs",
         &shapes,
         node,
-        &[REFUSED, TWICE, ABSENT],
+        &[REFUSED, TWICE, ABSENT, OTHER_BASE],
     );
 }
 
@@ -257,6 +257,14 @@ pub fn mergers(mode: &mut Mode) {
         "the merger of two nodes",
         &shapes,
         merger,
-        &[REFUSED, TWICE, ABSENT, LATE, SECOND_FIRST, DIFFER],
+        &[
+            REFUSED,
+            TWICE,
+            ABSENT,
+            LATE,
+            SECOND_FIRST,
+            DIFFER,
+            OTHER_BASE,
+        ],
     );
 }

@@ -4,7 +4,7 @@ use crate::check::{ByShifts, ByTables};
 use crate::lines::{BESIDE, Line, Mode, Side, each, head, name_of, shape};
 use crate::paths::Frames;
 use crate::plain::Shape;
-use crate::traffic::{RATE, TIME_BASE, pmu_configuration, pmu_data};
+use crate::traffic::{Beside, RATE, TIME_BASE, pmu_configuration, pmu_data};
 use crate::{ours, paths};
 use std::hint::black_box;
 
@@ -51,9 +51,10 @@ fn check_words(mode: &mut Mode) {
 }
 
 fn configurations(mode: &mut Mode, shape: Shape) {
-    let bytes = pmu_configuration(shape, 11, 1);
+    let bytes = pmu_configuration(shape, 11, 1, Beside::Nothing);
     let count = rounds_for(bytes.len(), mode);
-    let several = one_behind_the_other(|number| pmu_configuration(shape, 11, number));
+    let several =
+        one_behind_the_other(|number| pmu_configuration(shape, 11, number, Beside::Nothing));
     let reading = |read: fn(Frames, u32) -> u64| {
         let frames = Frames {
             bytes: &several,
@@ -94,9 +95,10 @@ fn configurations(mode: &mut Mode, shape: Shape) {
 }
 
 fn data_frames(mode: &mut Mode, shape: Shape) {
-    let bytes = pmu_data(shape, 11, 1);
+    let bytes = pmu_data(shape, 11, 1, Beside::Nothing);
     let count = rounds_for(bytes.len(), mode);
-    let several = one_behind_the_other(|number| pmu_data(shape, 11, number.into()));
+    let several =
+        one_behind_the_other(|number| pmu_data(shape, 11, number.into(), Beside::Nothing));
     let reading = |read: fn(Frames, Shape, u32, u32, u32) -> u64| {
         let frames = Frames {
             bytes: &several,

@@ -85,8 +85,8 @@ fn data_of(data: impl Fn(u32) -> Vec<u8>) -> Vec<Vec<u8>> {
 
 /// What a node is sent.
 pub fn to_node(shape: Shape) -> Script {
-    let configuration = pmu_configuration(shape, 1, 5);
-    let data = |instant| pmu_data(shape, 1, instant);
+    let configuration = pmu_configuration(shape, 1, 5, Beside::Nothing);
+    let data = |instant| pmu_data(shape, 1, instant, Beside::Nothing);
     let mut script = Script::default();
     let mut put = |datagrams: &[Vec<u8>]| datagrams.iter().for_each(|it| script.put(0, it));
     put(&[data(1)]);
@@ -96,7 +96,7 @@ pub fn to_node(shape: Shape) -> Script {
         configuration.clone(),
         configuration.clone(),
         with(&configuration, SECTION, b"X"),
-        pmu_configuration(shape, 1, 4),
+        pmu_configuration(shape, 1, 4, Beside::Nothing),
     ]);
     script.tick();
     data_of(data).iter().for_each(|it| script.put(0, it));
@@ -107,7 +107,7 @@ pub fn to_node(shape: Shape) -> Script {
 /// What the merger is sent.
 pub fn to_merger(shapes: &[Shape]) -> Script {
     let [first, second] = NODES;
-    let layout = node_layout(shapes, first, 2);
+    let layout = node_layout(shapes, first, 2, Beside::Nothing);
     let section = SECTION + OWN_SECTION_LEN;
     let data = |change| move |instant| node_data(shapes, first, instant, change, Beside::Nothing);
     let mut script = Script::default();
@@ -119,10 +119,14 @@ pub fn to_merger(shapes: &[Shape]) -> Script {
         with(&layout, section + SOURCE, &[0, 99]),
         layout.clone(),
         layout.clone(),
-        node_layout(shapes, first, 1),
+        node_layout(shapes, first, 1, Beside::Nothing),
         data(1)(1),
     ]);
-    let other = with(&node_layout(shapes, second, 2), section, b"X");
+    let other = with(
+        &node_layout(shapes, second, 2, Beside::Nothing),
+        section,
+        b"X",
+    );
     script.put(1, &other);
     script.tick();
     data_of(data(2)).iter().for_each(|it| script.put(0, it));
@@ -131,7 +135,7 @@ pub fn to_merger(shapes: &[Shape]) -> Script {
         40,
         &[0xAB],
     );
-    script.put(1, &node_layout(shapes, second, 2));
+    script.put(1, &node_layout(shapes, second, 2, Beside::Nothing));
     script.put(1, &differing);
     (0..3).for_each(|_| script.tick());
     script

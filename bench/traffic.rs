@@ -7,6 +7,10 @@ use crate::publishing::{OWN_BLOCK_LEN, put_absent};
 use crate::script::Script;
 
 pub const TIME_BASE: u32 = 1_000_000;
+
+/// The greatest TIME_BASE. A frame lies at no whole number of its counts.
+const OTHER_TIME_BASE: u32 = 16_777_215;
+
 pub const RATE: u32 = 50;
 
 /// The second of the first instants.
@@ -36,6 +40,19 @@ pub enum Beside {
     SecondFirst,
     /// One block in four of the second node differs from that of the first, in its last byte.
     Differ,
+    /// What comes has another TIME_BASE than what goes out.
+    OtherBase,
+}
+
+impl Beside {
+    /// The TIME_BASE of what comes.
+    pub fn time_base(self) -> u32 {
+        if self == Beside::OtherBase {
+            OTHER_TIME_BASE
+        } else {
+            TIME_BASE
+        }
+    }
 }
 
 fn frame(kind: Kind, id: u16, soc: u32, frac: u32, payload: &[u8]) -> Vec<u8> {
@@ -70,8 +87,8 @@ fn section(shape: Shape, source: u16, count: u16) -> Vec<u8> {
 }
 
 /// A CFG-2 frame of these sections.
-fn configuration(id: u16, sections: &[Vec<u8>]) -> Vec<u8> {
-    let mut payload = TIME_BASE.to_be_bytes().to_vec();
+fn configuration(id: u16, time_base: u32, sections: &[Vec<u8>]) -> Vec<u8> {
+    let mut payload = time_base.to_be_bytes().to_vec();
     payload.extend_from_slice(&(sections.len() as u16).to_be_bytes());
     payload.extend(sections.concat());
     payload.extend_from_slice(&(RATE as u16).to_be_bytes());
@@ -79,19 +96,19 @@ fn configuration(id: u16, sections: &[Vec<u8>]) -> Vec<u8> {
 }
 
 /// The configuration of a PMU.
-pub fn pmu_configuration(shape: Shape, id: u16, count: u16) -> Vec<u8> {
-    configuration(id, &[section(shape, id, count)])
+pub fn pmu_configuration(shape: Shape, id: u16, count: u16, beside: Beside) -> Vec<u8> {
+    configuration(id, beside.time_base(), &[section(shape, id, count)])
 }
 
 /// The layout of a node of 16 PMUs with this change number. The first PMU has its second configuration from the second change on.
-pub fn node_layout(shapes: &[Shape], id: u16, change: u32) -> Vec<u8> {
+pub fn node_layout(shapes: &[Shape], id: u16, change: u32, beside: Beside) -> Vec<u8> {
     let pmus = (1..).zip(shapes).map(|(source, shape)| {
         section(*shape, source, if source == 1 { change as u16 } else { 1 })
     });
     let sections: Vec<_> = std::iter::once(own_section(id, 1, (1, change)))
         .chain(pmus)
         .collect();
-    configuration(id, &sections)
+    configuration(id, beside.time_base(), &sections)
 }
 
 /// The bytes of a block at an instant.
@@ -101,19 +118,22 @@ fn block(shape: Shape, instant: u32, source: u32) -> Vec<u8> {
         .collect()
 }
 
-/// A data frame of this instant behind the floor.
-fn data(id: u16, instant: u32, payload: &[u8]) -> Vec<u8> {
+/// A data frame of this instant behind the floor, with the count nearest to it.
+fn data(id: u16, instant: u32, payload: &[u8], beside: Beside) -> Vec<u8> {
+    let (slot, base) = (u64::from(instant % RATE), u64::from(beside.time_base()));
+    let rate = u64::from(RATE);
     frame(
         Kind::Data,
         id,
         SOC + instant / RATE,
-        instant % RATE * (TIME_BASE / RATE),
+        ((2 * slot * base + rate) / (2 * rate)) as u32,
         payload,
     )
 }
 
-pub fn pmu_data(shape: Shape, id: u16, instant: u32) -> Vec<u8> {
-    data(id, instant, &block(shape, instant, u32::from(id)))
+pub fn pmu_data(shape: Shape, id: u16, instant: u32, beside: Beside) -> Vec<u8> {
+    let block = block(shape, instant, u32::from(id));
+    data(id, instant, &block, beside)
 }
 
 /// The data frame of a node of 16 PMUs under its layout with this change number; with absent PMUs, one in four is so, and with blocks that
@@ -132,7 +152,7 @@ pub fn node_data(shapes: &[Shape], id: u16, instant: u32, change: u32, beside: B
         }
         payload.extend(bytes);
     }
-    data(id, instant, &payload)
+    data(id, instant, &payload, beside)
 }
 
 fn is_fourth(pmu: usize) -> bool {
@@ -199,7 +219,7 @@ impl Run {
 pub fn node_run(shapes: &[Shape], instants: u32, beside: Beside) -> Run {
     let mut opening = Script::default();
     for (stream, (id, shape)) in (1..).zip(shapes).enumerate() {
-        opening.put(stream, &pmu_configuration(*shape, id, 1));
+        opening.put(stream, &pmu_configuration(*shape, id, 1, beside));
     }
     opening.tick();
     let mut sender = Sender {
@@ -214,15 +234,18 @@ pub fn node_run(shapes: &[Shape], instants: u32, beside: Beside) -> Run {
             let is_left_out =
                 beside == Beside::Absent && is_fourth(stream) || is_middle && stream == last;
             if !is_left_out {
-                sender.send(stream, &pmu_data(*shape, id, instant));
+                sender.send(stream, &pmu_data(*shape, id, instant, beside));
             }
         }
         if is_middle {
-            sender.script.put(0, &pmu_configuration(shapes[0], 1, 2));
+            sender
+                .script
+                .put(0, &pmu_configuration(shapes[0], 1, 2, beside));
         }
         sender.script.tick();
         if is_middle && beside != Beside::Absent {
-            sender.send(last, &pmu_data(shapes[last], last as u16 + 1, instant));
+            let late = pmu_data(shapes[last], last as u16 + 1, instant, beside);
+            sender.send(last, &late);
         }
     }
     Run {
@@ -236,7 +259,7 @@ pub fn node_run(shapes: &[Shape], instants: u32, beside: Beside) -> Run {
 pub fn merger_run(shapes: &[Shape], instants: u32, beside: Beside) -> Run {
     let mut opening = Script::default();
     for (stream, id) in NODES.into_iter().enumerate() {
-        opening.put(stream, &node_layout(shapes, id, 1));
+        opening.put(stream, &node_layout(shapes, id, 1, beside));
     }
     opening.tick();
     let mut sender = Sender {
@@ -270,7 +293,8 @@ pub fn merger_run(shapes: &[Shape], instants: u32, beside: Beside) -> Run {
         }
         if instant == middle {
             for (stream, id) in NODES.into_iter().enumerate() {
-                sender.script.put(stream, &node_layout(shapes, id, 2));
+                let layout = node_layout(shapes, id, 2, beside);
+                sender.script.put(stream, &layout);
             }
         }
         sender.script.tick();
