@@ -7,7 +7,7 @@ pub mod Written
 pub mod Splitting
 pub mod Readings
 pub mod Framed
-pub mod LastTags
+pub mod Seconds
 pub mod NearestLemmas
 pub mod SlotLemmas
 pub mod TagLemmas

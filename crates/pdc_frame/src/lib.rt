@@ -28,11 +28,11 @@ mod fronts;
 mod header;
 mod held;
 mod id;
-mod last_tag;
 mod laws;
 mod limits;
 mod nearest;
 mod reading;
+mod second;
 mod slots;
 mod step;
 mod stream;
@@ -52,7 +52,6 @@ pub use framer::Framer;
 pub use fronts::front_of;
 pub use header::{MAX_TEXT, read_header, write_header};
 pub use id::StreamId;
-pub use last_tag::LastTag;
 pub use laws::{
     frames_are_read_in_one_way, frames_are_written_in_parts, spellings_stand_apart,
     streams_split_in_one_way,
@@ -66,6 +65,7 @@ pub use pdc_words::{
     read_long, read_word, words_are_their_bytes,
 };
 pub use reading::read_frame;
+pub use second::Second;
 pub use slots::{instant, slot};
 pub use step::Step;
 pub use stream::frames_of;

@@ -219,7 +219,7 @@ fn resize(bytes: &mut ArrayVec<u8, MAX_ROW_LEN>, len: usize)
 
 /// Makes these bytes the data frame of the row, as [`append_row`] appends it. Where they are as many as those of the frame, each is written
 /// over once. Where its blocks came in one frame whose check word is known, that of this frame follows from it, and from what the fronts of
-/// both differ in; that and the tag are kept from row to row. It takes no memory.
+/// both differ in; that and the second are kept from row to row. It takes no memory.
 pub fn write_row(
     output: &Output,
     row: &DueRow,
@@ -234,7 +234,7 @@ pub fn write_row(
         resize(bytes, len);
     }
     let tag = last
-        .tag
+        .second
         .tag_of(row.instant, output.time_base, u32::from(output.rate));
     let bytes = bytes.as_mut_slice();
     match row.blocks.sent() {
