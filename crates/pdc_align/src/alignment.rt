@@ -1,14 +1,17 @@
 //! The alignment of a concentrator: what it keeps, what is looked up in it, and its steps, each said of what it keeps; those of a tick
 //! stand in `ticking.rt`. What they mean for a life stands in `life_calls.rt`.
 ghost use Rattle.std.specs.Prelude.{◌≡◌, ◌<◌, List, IfOk, IfSome, false, length, map, option_map};
-ghost use Rattle.std.specs.Prelude.{OnErr};
+ghost use Rattle.std.specs.Prelude.{OnErr, Some};
 ghost use Rattle.pdc_memory.specs.Asking.{SomeWasRefused};
 ghost use Rattle.std.specs.List.{All};
 ghost use Rattle.pdc_arrival.specs.pdc_cfg.Section.{fields_of_view};
 ghost use Rattle.pdc_arrival.specs.pdc_row.RowView.{RowView, row_view};
 ghost use Rattle.pdc_table.specs.Content.{HasSizesOf, IsContent};
 ghost use Rattle.pdc_table.specs.KeptRow.{popped_into};
+ghost use Rattle.pdc_table.specs.Placing.{row_at};
 ghost use Rattle.pdc_table.specs.pdc_open_row.Layout.{layout_view};
+ghost use Rattle.pdc_table.specs.pdc_open_row.Twin.{firsts};
+ghost use Rattle.pdc_table.specs.pdc_open_row.Views.{OpenRowView};
 ghost use Rattle.pdc_table.specs.Steps as table;
 ghost use Rattle.pdc_arrival.specs.Views.{section_part};
 ghost use Rattle.pdc_arrival.specs.declared.arrival.ColumnSection.{ColumnSection as ColumnSectionData};
@@ -145,10 +148,13 @@ impl<T: Table> Alignment<T> {
         self.layout.change
     }
 
-    /// The blocks that lie in lane 0 of an instant, if there are any: for a look whether those of a frame are the same. Which they are is left
-    /// open.
+    /// The blocks that lane 0 of an open instant holds, where it holds one of each column: for a look whether those of a frame are the same. That
+    /// it tells them is left open.
     #[inline(always)]
-    pub fn first_blocks(&self, instant: u64) -> Option<&RowBlocks> {
+    pub fn first_blocks(&self, instant: u64) -> Option<&RowBlocks>
+        ensures { IfSome result (λ blocks. option_map (λ (row : OpenRowView). firsts row.columns)
+            (row_at instant self.now.state.content.open_rows) ≡ Some blocks.now) }
+    {
         self.table.first_blocks(instant)
     }
 

@@ -11,6 +11,8 @@ ghost use Rattle.pdc_table.specs.KeptRow.{popped_into};
 ghost use Rattle.pdc_table.specs.pdc_open_row.Layout.{layout_view};
 ghost use Rattle.pdc_table.specs.pdc_open_row.Parts.{cut_cells};
 ghost use Rattle.pdc_table.specs.pdc_open_row.Taking.{body_cells_of};
+ghost use Rattle.pdc_table.specs.pdc_open_row.Twin.{IsTwinIn, twin_of};
+ghost use Rattle.pdc_table.specs.Placing.{row_at};
 ghost use Rattle.pdc_arrival.specs.Views.{section_part};
 ghost use Rattle.pdc_arrival.specs.declared.arrival.ColumnSection.{ColumnSection as ColumnSectionData};
 ghost use Rattle.pdc_arrival.specs.pdc_life.Answer.{bare, outcome_in_time, pop_answer};
@@ -85,7 +87,8 @@ impl<T: Table> Alignment<T> {
         self.offer(stream, instant, cells, quality)
     }
 
-    /// The same, with blocks that lie one after the other in the payload of a frame.
+    /// The same, with blocks that lie one after the other in the payload of a frame. It may be known that they are those that lane 0 holds of
+    /// the instant.
     pub fn put_parts<P: Part>(
         &mut self,
         stream: usize,
@@ -97,6 +100,8 @@ impl<T: Table> Alignment<T> {
             (cut_cells P.column_of P.shape_of cut.now.parts.now quality
             (words_in cut.now.bytes.now)) }
         requires few { length cut.now.parts.now ≤ MAX_PMUS }
+        requires twin { IsTwinIn (twin_of cut.now.is_twin cut.now.bytes.now)
+            (row_at instant self.old.state.content.open_rows) }
         ensures answer { (g : Given) (E : List Entry) → StandsFor g E self.old.state →
             result ≡ outcome_in_time g E stream instant
             (cut_cells P.column_of P.shape_of cut.now.parts.now quality

@@ -4,6 +4,8 @@ ghost use Rattle.pdc_arrival.specs.pdc_block.Block.{words_in};
 ghost use Rattle.pdc_table.specs.Content.{IsPut};
 ghost use Rattle.pdc_table.specs.pdc_open_row.Parts.{cut_cells};
 ghost use Rattle.pdc_table.specs.pdc_open_row.Taking.{body_cells_of};
+ghost use Rattle.pdc_table.specs.pdc_open_row.Twin.{IsTwinIn, twin_of};
+ghost use Rattle.pdc_table.specs.Placing.{row_at};
 ghost use Rattle.pdc_align.specs.Align.{Unchanged};
 ghost use Rattle.pdc_align.specs.Calls.{after_data, put_outcome};
 ghost use Rattle.pdc_align.specs.Follows.{told_by};
@@ -62,6 +64,8 @@ impl<T: Table> Alignment<T> {
             (cut_cells P.column_of P.shape_of cut.now.parts.now quality
             (words_in cut.now.bytes.now)) }
         requires few { length cut.now.parts.now ≤ MAX_PMUS }
+        requires twin { IsTwinIn (twin_of cut.now.is_twin cut.now.bytes.now)
+            (row_at instant self.old.state.content.open_rows) }
         ensures answer { result ≡ put_outcome self.old.state stream instant
             (cut_cells P.column_of P.shape_of cut.now.parts.now quality
             (words_in cut.now.bytes.now)) }

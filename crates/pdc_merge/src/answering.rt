@@ -15,6 +15,8 @@ ghost use Rattle.pdc_life.specs.Life.{Arrive, Entry};
 ghost use Rattle.pdc_life.specs.Merger.{merged_answer};
 ghost use Rattle.pdc_life.specs.Run.{IsRun};
 ghost use Rattle.pdc_arrival.specs.Views.{arrival_view, section_part, stamp_view};
+ghost use Rattle.pdc_table.specs.Placing.{row_at};
+ghost use Rattle.pdc_table.specs.pdc_open_row.Twin.{IsTwinIn, twin_of};
 ghost use Rattle.pdc_merge.specs.Cells.{are_in_force, blocks_len, cells_in, conflicts_in};
 ghost use Rattle.pdc_merge.specs.Cells.{data_refusal, layouts_in_force};
 ghost use Rattle.pdc_merge.specs.Held.{AreAllInPlace, AreInPlace, LayoutView, layout_at};
@@ -98,6 +100,7 @@ fn put_data<T: Table>(
     quality: u8,
     payload: &[u8],
     sent: Option<&CheckedFront>,
+    is_twin: bool,
 ) -> Outcome
     requires each { length alignment.old.state.columns ≡ alignment.old.state.content.columns }
     requires lanes { alignment.old.state.content.lanes ≡ 2 }
@@ -107,6 +110,8 @@ fn put_data<T: Table>(
     requires in_force { is_in_force ≡ are_in_force alignment.old.state layout.now.sections }
     requires sent { ForSome sent (λ known. known.now.check ≡
         check_word_of (known.now.bytes ++ drop 14 payload.now)) }
+    requires twin { IsTwinIn (twin_of is_twin (drop 14 payload.now))
+        (row_at instant alignment.old.state.content.open_rows) }
     ensures answer { (g : Given) (E : List Entry) → StandsFor g E alignment.old.state →
         result ≡ outcome_in_time g E stream instant
         (cells_in alignment.old.state quality layout.now.sections (drop 7 (words_in payload.now))) }
@@ -127,6 +132,7 @@ fn put_data<T: Table>(
             laid: layout.laid(),
             bytes: &payload[OWN_BLOCK_LEN..],
             sent,
+            is_twin,
         };
         return alignment.put_parts(stream, instant, &cut, quality);
     }
@@ -143,6 +149,7 @@ fn answer_under<T: Table>(
     quality: u8,
     payload: &[u8],
     sent: Option<&CheckedFront>,
+    is_twin: bool,
 ) -> Outcome
     requires each { length alignment.old.state.columns ≡ alignment.old.state.content.columns }
     requires lanes { alignment.old.state.content.lanes ≡ 2 }
@@ -151,6 +158,8 @@ fn answer_under<T: Table>(
     requires in_force { is_in_force ≡ are_in_force alignment.old.state layout.now.sections }
     requires sent { ForSome sent (λ known. known.now.check ≡
         check_word_of (known.now.bytes ++ drop 14 payload.now)) }
+    requires twin { IsTwinIn (twin_of is_twin (drop 14 payload.now))
+        (row_at instant alignment.old.state.content.open_rows) }
     ensures answer { (g : Given) (E : List Entry) → StandsFor g E alignment.old.state →
         Some layout.now ≡ layout_at (layouts_of E) stream →
         result ≡ (merged_answer g E stream (Data instant quality payload.now)).outcome }
@@ -175,6 +184,7 @@ fn answer_under<T: Table>(
             quality,
             payload,
             sent,
+            is_twin,
         ),
     }
 }
@@ -297,12 +307,15 @@ pub fn answer_data<T: Table>(
     quality: u8,
     payload: &[u8],
     sent: Option<&CheckedFront>,
+    is_twin: bool,
 ) -> Outcome
     requires ready { IsReady alignment.old.state layouts.now }
     requires known { in_force ≡ layouts_in_force alignment.old.state layouts.now }
     requires stream { stream < 2 }
     requires sent { ForSome sent (λ known. known.now.check ≡
         check_word_of (known.now.bytes ++ drop 14 payload.now)) }
+    requires twin { IsTwinIn (twin_of is_twin (drop 14 payload.now))
+        (row_at instant alignment.old.state.content.open_rows) }
     ensures answer { (g : Given) (E : List Entry) → StandsFor g E alignment.old.state →
         layouts.now ≡ layouts_of E →
         result ≡ (merged_answer g E stream (Data instant quality payload.now)).outcome }
@@ -325,6 +338,7 @@ pub fn answer_data<T: Table>(
             quality,
             payload,
             sent,
+            is_twin,
         ),
         None => Outcome::Refused(Refusal::NoConfig),
     }
@@ -366,7 +380,7 @@ pub fn answer<T: Table>(
             quality,
             payload,
         } => answer_data(
-            alignment, layouts, in_force, stream, *instant, *quality, payload, None,
+            alignment, layouts, in_force, stream, *instant, *quality, payload, None, false,
         ),
         Arrival::Layout { stamp, sections } => {
             answer_configuration(alignment, layouts, stream, *stamp, sections)

@@ -1,5 +1,7 @@
 //! How the merger answers what comes of a node.
 ghost use Rattle.std.specs.Prelude.{◌≡◌, ◌<◌, ◌∷◌, ◌++◌, ℕ, List, drop};
+ghost use Rattle.pdc_table.specs.Placing.{row_at};
+ghost use Rattle.pdc_table.specs.pdc_open_row.Twin.{IsTwinIn, twin_of};
 ghost use Rattle.std.specs.Option.{ForSome};
 ghost use Rattle.pdc_frame.specs.CheckWord.{check_word_of};
 ghost use Rattle.pdc_frame.specs.Claim.{is_right};
@@ -18,11 +20,12 @@ use crate::{Merger, answering};
 use pdc_align::others_are_left;
 use pdc_frame::{CheckedFront, Claim, FrameFault};
 use pdc_life::{Outcome, Refusal, lives_are_runs};
-use pdc_row::is_right_beside;
+use pdc_row::{Beside, check_beside};
 use pdc_table::Table;
 
 impl<T: Table> Merger<T> {
-    /// Answers data of a node, and takes it where it is to be taken.
+    /// Answers data of a node, and takes it where it is to be taken. It may be known that its blocks are those that the other node's frame brought
+    /// for the instant.
     pub(crate) fn arrive_data(
         &mut self,
         stream: usize,
@@ -30,10 +33,13 @@ impl<T: Table> Merger<T> {
         quality: u8,
         payload: &[u8],
         sent: Option<&CheckedFront>,
+        is_twin: bool,
     ) -> Outcome
         requires stream { stream < 2 }
         requires sent { ForSome sent (λ known. known.now.check ≡
             check_word_of (known.now.bytes ++ drop 14 payload.now)) }
+        requires twin { IsTwinIn (twin_of is_twin (drop 14 payload.now))
+            (row_at instant self.old.state.content.open_rows) }
         ensures answer { (g : Given) (E : List Entry) → StandsFor g E self.old →
             result ≡ (merged_answer g E stream (Data instant quality payload.now)).outcome }
         ensures stands { (g : Given) (E : List Entry) (bytes : List ℕ) →
@@ -56,6 +62,7 @@ impl<T: Table> Merger<T> {
             quality,
             payload,
             sent,
+            is_twin,
         );
         self.counts.count(outcome);
         outcome
@@ -85,12 +92,19 @@ impl<T: Table> Merger<T> {
     /// Whether the check word is right of a frame with this payload. It follows by a sum where the frame of the other node brought the same blocks
     /// for the instant.
     #[inline(always)]
-    fn is_right(&mut self, instant: u64, payload: &[u8], claim: &Claim) -> bool
-        ensures value { result ≡ is_right claim.now payload.now }
+    fn check(&mut self, instant: u64, payload: &[u8], claim: &Claim) -> Beside
+        ensures right { result.is_right ≡ is_right claim.now payload.now }
+        ensures twin { IsTwinIn (twin_of result.is_same (drop 14 payload.now))
+            (row_at instant self.old.state.content.open_rows) }
         ensures same { self.new ≡ self.old }
     {
-        let blocks = self.alignment.first_blocks(instant);
-        is_right_beside(claim, payload, blocks, &mut self.difference)
+        match self.alignment.first_blocks(instant) {
+            Some(blocks) => check_beside(claim, payload, blocks, &mut self.difference),
+            None => Beside {
+                is_right: claim.is_right(payload),
+                is_same: false,
+            },
+        }
     }
 
     /// Answers data of a node whose check word is not computed yet, or bytes that are refused where it is wrong.
@@ -116,8 +130,9 @@ impl<T: Table> Merger<T> {
         ensures settings { self.new.settings ≡ self.old.settings }
         ensures memory { self.new.memory ≡ self.old.memory }
     {
-        if self.is_right(instant, payload, claim) {
-            self.arrive_data(stream, instant, quality, payload, None)
+        let seen = self.check(instant, payload, claim);
+        if seen.is_right {
+            self.arrive_data(stream, instant, quality, payload, None, seen.is_same)
         } else {
             self.arrive_refused(Refusal::NoFrame(FrameFault::BadCheck))
         }
@@ -151,7 +166,7 @@ impl<T: Table> Merger<T> {
         ensures memory { self.new.memory ≡ self.old.memory }
     {
         match claim {
-            None => self.arrive_data(stream, instant, quality, payload, sent),
+            None => self.arrive_data(stream, instant, quality, payload, sent, false),
             Some(claim) => self.arrive_claimed(stream, instant, quality, payload, claim),
         }
     }

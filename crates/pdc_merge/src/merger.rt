@@ -206,7 +206,7 @@ impl<T: Table> Core for Merger<T> {
                 instant,
                 quality,
                 payload,
-            } => self.arrive_data(stream, instant, quality, payload, None),
+            } => self.arrive_data(stream, instant, quality, payload, None, false),
             Reading::BytesRefused(refusal) => self.arrive_refused(refusal),
             heard => {
                 let arrival = arrival_from_node(&self.settings, stream, heard);

@@ -6,6 +6,7 @@ pub mod HeldOnce
 pub mod OpenRowParts
 pub mod RowSteps
 pub mod TakenParts
+pub mod Twins
 pub mod WholeFrames
 pub mod WholeRows
 pub use Rattle.pdc_row.proofs as pdc_row

@@ -6,6 +6,7 @@ pub mod Parts
 pub mod Row
 pub mod Streams
 pub mod Taking
+pub mod Twin
 pub mod Views
 pub use Rattle.pdc_row.specs as pdc_row
 pub use Rattle.pdc_row.specs.pdc_block

@@ -1,5 +1,5 @@
 //! The row of an instant that is open.
-ghost use Rattle.std.specs.Prelude.{◌≡◌, ◌+◌, ◌<◌, ◌≤◌, ◌++◌, drop, length, Some};
+ghost use Rattle.std.specs.Prelude.{◌≡◌, ◌+◌, ◌<◌, ◌≤◌, ◌++◌, IfSome, drop, length, Some};
 ghost use Rattle.std.specs.Prelude.{if◌then◌else◌, replicate, true};
 ghost use Rattle.pdc_row.specs.Quality.{quality_of, worst_of};
 ghost use Rattle.pdc_row.specs.RowView.{row_view};
@@ -8,6 +8,7 @@ ghost use Rattle.pdc_open_row.specs.Row.{blocks_of, qualities_of, row_of};
 ghost use Rattle.pdc_open_row.specs.Due.{all_taken, is_due};
 ghost use Rattle.pdc_open_row.specs.Taking.{HaveColumns, answer_at, conflicts, is_taken};
 ghost use Rattle.pdc_open_row.specs.Taking.{with_frame, without_column, without_stream};
+ghost use Rattle.pdc_open_row.specs.Twin.{IsTwin, firsts};
 ghost use Rattle.pdc_open_row.specs.Chosen.{disagreements_of};
 ghost use Rattle.pdc_open_row.specs.Layout.{layout_view};
 ghost use Rattle.pdc_open_row.specs.OpenRowParts.{worst_kept};
@@ -113,10 +114,13 @@ impl OpenRow {
         self.instant
     }
 
-    /// The blocks that lie in lane 0, whether they are held or not: for a look whether those of a frame are the same.
+    /// The blocks that lane 0 holds, where it holds one of each column and that is known of all at once: for a look whether those of a frame are
+    /// the same.
     #[inline(always)]
-    pub fn first_blocks(&self) -> &RowBlocks {
-        &self.columns.first
+    pub fn first_blocks(&self) -> Option<&RowBlocks>
+        ensures { IfSome result (λ blocks. blocks.now ≡ firsts self.now.columns) }
+    {
+        self.columns.first_blocks()
     }
 
     /// Takes a frame of the stream: its blocks go into their columns, in this lane.
@@ -124,6 +128,7 @@ impl OpenRow {
     pub fn take<C: Blocks>(&mut self, stream: usize, lane: usize, blocks: &C, quality: u8)
         requires stream { stream < length self.old.taken }
         requires columns { HaveColumns (C.cells blocks.now quality) self.old.columns }
+        requires twin { IsTwin (C.twin blocks.now) self.old.columns }
         ensures { self.new ≡ with_frame stream lane (C.cells blocks.now quality) self.old }
     {
         self.taken[stream] = true;
@@ -149,6 +154,7 @@ impl OpenRow {
     ) -> PutOutcome
         requires stream { stream < length self.old.taken }
         requires columns { HaveColumns (C.cells blocks.now quality) self.old.columns }
+        requires twin { IsTwin (C.twin blocks.now) self.old.columns }
         ensures answer { result ≡ answer_at (Some self.old) stream lane
             (C.cells blocks.now quality) }
         ensures row { self.new ≡ (if is_taken (answer_at (Some self.old) stream lane

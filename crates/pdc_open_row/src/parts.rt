@@ -9,6 +9,7 @@ ghost use Rattle.pdc_row.specs.pdc_frame.CheckWord.{check_word_of};
 ghost use Rattle.pdc_row.specs.pdc_cfg.declared.shape.Shape.{Shape as ShapeData};
 ghost use Rattle.pdc_open_row.specs.Parts.{cut_cells, laid_out, parts_len};
 ghost use Rattle.pdc_open_row.specs.Taking.{any_second, body_cells_of, conflicts, with_cells};
+ghost use Rattle.pdc_open_row.specs.Twin.{twin_of};
 
 use crate::MAX_COLUMNS;
 use crate::blocks::Blocks;
@@ -41,6 +42,8 @@ pub struct Cut<'a, P: Part> {
     pub bytes: &'a [u8],
     /// The front and the check word of the frame in which they came, if they are known: they stand between the two.
     pub sent: Option<&'a CheckedFront>,
+    /// Whether it was seen that they are those that lane 0 holds of the instant for which they are put.
+    pub is_twin: bool,
     pub ghost told: { option_map (λ shapes. shapes.now) laid ≡
         laid_out P.column_of P.shape_of parts.now },
     pub ghost whole: { length bytes.now ≡ parts_len P.shape_of parts.now },
@@ -51,6 +54,8 @@ pub struct Cut<'a, P: Part> {
 impl<P: Part> Blocks for Cut<'_, P> {
     ghost cells = { λ cut quality. cut_cells P.column_of P.shape_of cut.parts.now quality
         (words_in cut.bytes.now) };
+
+    ghost twin = { λ cut. twin_of cut.is_twin cut.bytes.now };
 
     /// Where they are laid out as the columns have them, they are put as a whole.
     fn put(&self, columns: &mut Columns, lane: usize, quality: u8, is_alone: bool) {

@@ -2,13 +2,14 @@
 ghost use Rattle.std.specs.Prelude.{◌≡◌, ◌<◌, ◌≤◌, ◌+◌, [], IfSome, List, Some, false, length, map};
 ghost use Rattle.std.specs.Prelude.{true};
 ghost use Rattle.pdc_row.specs.CellView.{BlockView};
-ghost use Rattle.pdc_row.specs.KeptBlocks.{shapes_of};
+ghost use Rattle.pdc_row.specs.KeptBlocks.{blocks_in, shapes_of};
 ghost use Rattle.pdc_row.specs.Quality.{quality_of, worst_of};
 ghost use Rattle.pdc_row.specs.pdc_block.Block.{words_in};
 ghost use Rattle.pdc_open_row.specs.OpenRowParts.{columns_of, worst_kept};
 ghost use Rattle.pdc_open_row.specs.Parts.{cut_cells};
 ghost use Rattle.pdc_open_row.specs.Row.{blocks_of, qualities_of};
 ghost use Rattle.pdc_open_row.specs.Taking.{with_cells};
+ghost use Rattle.pdc_open_row.specs.Twin.{IsTwin, firsts, twin_of};
 
 use crate::columns::Columns;
 use crate::laid::fits;
@@ -22,6 +23,7 @@ impl Columns {
     /// Puts the blocks of a whole frame, one for each column as they are laid out here, into this lane: by one copy, or by none where they are
     /// those of the other lane. Whether it did; else nothing is put.
     pub(crate) fn put_whole<P: Part>(&mut self, lane: usize, cut: &Cut<'_, P>, quality: u8) -> bool
+        requires { IsTwin (twin_of cut.now.is_twin cut.now.bytes.now) self.old }
         ensures whole { result ≡ true → self.new ≡ with_cells lane (cut_cells P.column_of P.shape_of
             cut.now.parts.now quality (words_in cut.now.bytes.now)) self.old }
         ensures none { result ≡ false → self.new ≡ self.old }
@@ -66,10 +68,11 @@ impl Columns {
         true
     }
 
-    /// The same into lane 1: what lane 0 has is not written again.
+    /// The same into lane 1: what lane 0 has is not written again, and where that is known it is not compared.
     #[inline(always)]
     fn put_whole_second<P: Part>(&mut self, lane: usize, cut: &Cut<'_, P>, quality: u8) -> bool
-        requires { 0 < lane }
+        requires lane { 0 < lane }
+        requires twin { IsTwin (twin_of cut.now.is_twin cut.now.bytes.now) self.old }
         ensures whole { result ≡ true → self.new ≡ with_cells lane (cut_cells P.column_of P.shape_of
             cut.now.parts.now quality (words_in cut.now.bytes.now)) self.old }
         ensures none { result ≡ false → self.new ≡ self.old }
@@ -78,9 +81,10 @@ impl Columns {
         let Some(mut held) = self.held.one() else {
             return false;
         };
+        let is_twin = cut.is_twin & held.first;
         held.second = true;
         held.second_quality = quality;
-        if fits(cut.parts, cut.laid, &self.first) && self.first.has_bytes(cut.bytes) {
+        if fits(cut.parts, cut.laid, &self.first) && are_of(cut.bytes, is_twin, &self.first) {
             held.alike = true;
             self.held.fill(held);
             return true;
@@ -92,6 +96,17 @@ impl Columns {
         self.second.write_over(cut.bytes, cut.sent);
         self.held.fill(held);
         true
+    }
+
+    /// The blocks of lane 0, where it is known of all columns at once that it holds them.
+    #[inline(always)]
+    pub(crate) fn first_blocks(&self) -> Option<&RowBlocks>
+        ensures { IfSome result (λ blocks. blocks.now ≡ firsts self.now) }
+    {
+        match self.held.one() {
+            Some(held) if held.first => Some(&self.first),
+            _ => None,
+        }
     }
 
     /// Makes these the blocks that the columns give, where all columns have shapes and lane 0 is laid out in them: by one copy, over which the
@@ -128,6 +143,15 @@ impl Columns {
             }
         }
     }
+}
+
+/// Whether bytes are those of blocks: where that is known, they are not compared.
+#[inline(always)]
+fn are_of(bytes: &[u8], is_known: bool, blocks: &RowBlocks) -> bool
+    requires { is_known ≡ true → blocks_in (shapes_of blocks.now) bytes.now ≡ blocks.now }
+    ensures { result ≡ true → blocks_in (shapes_of blocks.now) bytes.now ≡ blocks.now }
+{
+    is_known || blocks.has_bytes(bytes)
 }
 
 /// Gives the columns that hold nothing absent blocks of these shapes.

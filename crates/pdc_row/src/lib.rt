@@ -27,7 +27,7 @@ mod section;
 mod shapes;
 mod stamp;
 
-pub use beside::is_right_beside;
+pub use beside::{Beside, check_beside};
 pub use block_copy::copy_block;
 pub use copied::{CopyFrom, copy_each};
 pub use due_row::DueRow;

@@ -1,9 +1,9 @@
 -- Rows with the ages that are kept beside them.
-use Rattle.std.proofs.Common.{◌≡◌, ℕ, ◌%◌, ◌<◌, Bool, true, false, if◌then◌else◌, eqb, List, [], ◌∷◌, length, get_or, set, map, refl, sym, ◌∙◌, ap, subst, arith, Some, None, zero, suc}
+use Rattle.std.proofs.Common.{◌≡◌, ℕ, ◌%◌, ◌<◌, Bool, true, false, if◌then◌else◌, eqb, List, [], ◌∷◌, length, get_or, set, map, refl, sym, ◌∙◌, ap, subst, arith, Option, Some, None, zero, suc}
 use Rattle.std.proofs.Math.Nat.{mod-lt}
 use Rattle.std.specs.List.{All}
-use Rattle.std.specs.Option.{unwrap_or}
-use Rattle.std.proofs.lemmas.Bool.{false≢true}
+use Rattle.std.specs.Option.{option_map, unwrap_or}
+use Rattle.std.proofs.lemmas.Bool.{eq-eqb, false≢true}
 use Rattle.std.proofs.lemmas.List.{length-map, length-set}
 use Rattle.pdc_open_row.specs.pdc_row.CellView.{CellView}
 use Rattle.pdc_table.specs.Closing.{aged}
@@ -12,9 +12,11 @@ use Rattle.pdc_table.specs.RingRows.{StandAbove, base_row, changed, closed_rows,
 use Rattle.pdc_open_row.specs.Views.{OpenRowView, at_age, blank_row}
 use Rattle.pdc_table.specs.Steps.{disagreements_in}
 use Rattle.pdc_open_row.specs.Taking.{answer_at, is_taken, with_frame}
+use Rattle.pdc_open_row.specs.Twin.{IsTwin, IsTwinIn, firsts}
 use Rattle.pdc_table.specs.Content.{HasPlaces}
 use Rattle.pdc_open_row.specs.declared.outcome.PutOutcome.{PutOutcome}
-use Rattle.pdc_table.proofs.RingKept.{IsKnown, IsRing, ring_changed}
+use Rattle.pdc_table.specs.Placing.{row_at}
+use Rattle.pdc_table.proofs.RingKept.{IsKnown, IsRing, met_in, ring_changed}
 use Rattle.pdc_table.proofs.RingRows.{ArePlaced}
 
 pub aged_length : (rows : List OpenRowView) (ages : List ℕ) (n : ℕ) → length rows ≡ n → length ages ≡ n → length (with_ages rows ages) ≡ n
@@ -33,6 +35,23 @@ aged_at (row ∷ rows) (age ∷ ages) (suc k) d h e = aged_at rows ages k d (ome
 -- the row at a place has the age there
 pub aged_row : (places : List OpenRowView) (ages : List ℕ) (window i : ℕ) → 0 < window → length places ≡ window → length ages ≡ window → row_in (with_ages places ages) window i ≡ at_age (get_or ages (i % window) 0) (row_in places window i)
 aged_row places ages window i h e k = aged_at places ages (i % window) (blank_row 0 0 0) (omega (arith, mod-lt i h)) (omega arith)
+
+-- what is known of the bytes of a frame is so of a row, whatever its age
+aged_by : (here : Bool) (twin : Option (List ℕ)) (age : ℕ) (row : OpenRowView) → IsTwinIn twin (if here then Some (at_age age row) else None) → IsTwinIn twin (if here then Some row else None)
+aged_by here None age row t = tt
+aged_by true (Some bytes) age row t = t
+aged_by false (Some bytes) age row t = tt
+
+pub aged_twin : (twin : Option (List ℕ)) (places : List OpenRowView) (ages : List ℕ) (window i : ℕ) → 0 < window → length places ≡ window → length ages ≡ window
+    → IsTwinIn twin (met_row i (row_in (with_ages places ages) window i)) → IsTwinIn twin (met_row i (row_in places window i))
+aged_twin twin places ages window i h e k t =
+    let row : OpenRowView = row_in places window i in
+    aged_by (eqb row.instant i) twin (get_or ages (i % window) 0) row (subst (λ (x : OpenRowView). IsTwinIn twin (met_row i x)) (aged_row places ages window i h e k) t)
+
+-- in the row that a frame is put into it is so
+pub twin_met : (twin : Option (List ℕ)) (i : ℕ) (row : OpenRowView) → row.instant ≡ i → IsTwinIn twin (met_row i row) → IsTwin twin row.columns
+twin_met None i row e t = tt
+twin_met (Some bytes) i row e t = subst (λ (here : Bool). IsTwinIn (Some bytes) (if here then Some row else None)) (eq-eqb row.instant i e) t
 
 pub aged_placed : (places : List OpenRowView) (ages : List ℕ) (window : ℕ) (is : List ℕ) → 0 < window → length places ≡ window → length ages ≡ window → ArePlaced places window is → ArePlaced (with_ages places ages) window is
 aged_placed places ages window [] h e k p = tt
@@ -150,6 +169,16 @@ aged_ring window last s k places ages is h e r = record {
   known = aged_each (IsKnown last is) (λ a row p. p) places ages (e ∙ sym r.size) r.known;
   stand = aged_stand last window places ages (e ∙ sym r.size) r.stand;
 }
+
+-- the row of an open instant is that at its place, and so are the blocks of lane 0
+pub firsts_at : (window last s k i : ℕ) (places : List OpenRowView) (ages : List ℕ) (is : List ℕ) → 0 < window → length ages ≡ window → last < i → IsRing window last s k places is → (row_in places window i).instant ≡ i
+    → option_map (λ (row : OpenRowView). firsts row.columns) (row_at i (rows_in (with_ages places ages) window is)) ≡ Some (firsts (row_in places window i).columns)
+firsts_at window last s k i places ages is h a l r e =
+    let row : OpenRowView = row_in places window i in
+    ap (option_map (λ (x : OpenRowView). firsts x.columns))
+    (met_in window last s k i (with_ages places ages) is h l (aged_ring window last s k places ages is h a r)
+    ∙ ap (met_row i) (aged_row places ages window i h r.size a)
+    ∙ ap (λ here. if here then Some (at_age (get_or ages (i % window) 0) row) else None) (eq-eqb row.instant i e))
 
 pub kept_by : (f : OpenRowView → OpenRowView) → ((row : OpenRowView) → (f row).instant ≡ row.instant) → (window last s k : ℕ) → ((row : OpenRowView) → HasPlaces s k row → HasPlaces s k (f row)) → (places now : List OpenRowView) (is seen : List ℕ) → 0 < window → seen ≡ is → now ≡ changed f window seen places → IsRing window last s k places is → IsRing window last s k now is
 kept_by f g window last s k q places now is seen h v e r =

@@ -20,6 +20,7 @@ ghost use Rattle.pdc_open_row.specs.Views.{OpenRowView, blank_row, without_insta
 ghost use Rattle.pdc_table.specs.Steps.{disagreements_in, is_first_whole};
 ghost use Rattle.pdc_open_row.specs.Taking.{HaveColumns, answer_at, is_taken, with_frame};
 ghost use Rattle.pdc_open_row.specs.Taking.{without_column, without_stream};
+ghost use Rattle.pdc_open_row.specs.Twin.{IsTwinIn};
 
 use crate::ages::Ages;
 use crate::circle::Circle;
@@ -304,6 +305,8 @@ impl Rows {
             here.now.instant).taken }
         requires columns { HaveColumns (C.cells blocks.now quality)
             (row_in self.old.places.items here.now.window here.now.instant).columns }
+        requires twin { IsTwinIn (C.twin blocks.now) (met_row here.now.instant
+            (row_in self.old.places.items here.now.window here.now.instant)) }
         ensures answer { result ≡ answer_at (met_row here.now.instant
             (row_in self.old.places.items here.now.window here.now.instant))
             stream lane (C.cells blocks.now quality) }

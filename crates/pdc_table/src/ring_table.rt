@@ -1,6 +1,8 @@
 //! A table kept as a ring.
 ghost use Rattle.std.specs.Prelude.{◌≡◌};
+ghost use Rattle.pdc_open_row.specs.Twin.{IsTwinIn};
 ghost use Rattle.pdc_table.specs.Content.{HasSizesOf, IsContent, IsPut};
+ghost use Rattle.pdc_table.specs.Placing.{row_at};
 ghost use Rattle.pdc_table.specs.Steps.{after_put, put_answer};
 
 use crate::circle::Circle;
@@ -51,7 +53,8 @@ impl RingTable {
         blocks: &C,
         quality: u8,
     ) -> PutOutcome
-        requires { IsPut self.old.content stream (C.cells blocks.now quality) }
+        requires put { IsPut self.old.content stream (C.cells blocks.now quality) }
+        requires twin { IsTwinIn (C.twin blocks.now) (row_at instant self.old.content.open_rows) }
         ensures answer { result ≡ put_answer self.old.content stream instant
             (C.cells blocks.now quality) }
         ensures content { self.new.content ≡
@@ -238,12 +241,14 @@ impl Table for RingTable {
 
     #[inline(always)]
     fn first_blocks(&self, instant: u64) -> Option<&RowBlocks> {
-        let row = self.rows.places.item(self.circle.place_of(instant));
-        if row.instant() == instant {
-            Some(row.first_blocks())
-        } else {
-            None
+        if instant <= self.closed.last {
+            return None;
         }
+        let row = self.rows.places.item(self.circle.place_of(instant));
+        if row.instant() != instant {
+            return None;
+        }
+        row.first_blocks()
     }
 
     fn next_due(&self) -> Option<u64> {

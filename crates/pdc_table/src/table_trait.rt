@@ -1,6 +1,6 @@
 //! What every table promises, however it is kept.
 ghost use Rattle.std.specs.Prelude.{◌≡◌, ℕ, ◌<◌, ◌≤◌, false, List, length, map, IfOk, option_map};
-ghost use Rattle.std.specs.Prelude.{OnErr};
+ghost use Rattle.std.specs.Prelude.{IfSome, OnErr, Some};
 ghost use Rattle.pdc_memory.specs.Asking.{SomeWasRefused};
 ghost use Rattle.std.specs.List.{AllByRecursion};
 ghost use Rattle.pdc_open_row.specs.pdc_row.RowView.{RowView, row_view};
@@ -15,6 +15,9 @@ ghost use Rattle.pdc_table.specs.Steps.{after_put, after_require, after_tick, cl
 ghost use Rattle.pdc_table.specs.Steps.{disagreements_after, next_answer, pop_answer, put_answer};
 ghost use Rattle.pdc_table.specs.Steps.{shape_of, shapes_given, tick_answer, whole_answer};
 ghost use Rattle.pdc_open_row.specs.Taking.{body_cells_of, cells_of};
+ghost use Rattle.pdc_open_row.specs.Twin.{IsTwinIn, firsts, twin_of};
+ghost use Rattle.pdc_open_row.specs.Views.{OpenRowView};
+ghost use Rattle.pdc_table.specs.Placing.{row_at};
 
 use crate::{
     MAX_COLUMNS, MAX_LANES, MAX_WINDOW, MIN_WINDOW, PutOutcome, RowLayout, WaitRule, cut_bodies,
@@ -103,7 +106,8 @@ pub trait Table: Drop {
         ensures memory { memory self.new ≡ memory self.old }
         ensures well_formed { IsContent (content self.new) };
 
-    /// As `put_bodies`, with blocks that lie one after the other in the payload of a frame.
+    /// As `put_bodies`, with blocks that lie one after the other in the payload of a frame. It may be known that they are those that lane 0
+    /// holds of the instant.
     fn put_parts<P: Part>(
         &mut self,
         stream: usize,
@@ -115,6 +119,8 @@ pub trait Table: Drop {
             (cut_cells P.column_of P.shape_of cut.now.parts.now quality
             (words_in cut.now.bytes.now)) }
         requires few { length cut.now.parts.now ≤ MAX_COLUMNS }
+        requires twin { IsTwinIn (twin_of cut.now.is_twin cut.now.bytes.now)
+            (row_at instant (content self.old).open_rows) }
         ensures answer { result ≡ put_answer (content self.old) stream instant
             (cut_cells P.column_of P.shape_of cut.now.parts.now quality
             (words_in cut.now.bytes.now)) }
@@ -214,9 +220,12 @@ pub trait Table: Drop {
         }
     }
 
-    /// The blocks that lie in lane 0 of an instant, whether they are held or not, if there are any: for a look whether those of a frame are the
-    /// same. Which they are is left open.
-    fn first_blocks(&self, instant: u64) -> Option<&RowBlocks> {
+    /// The blocks that lane 0 of an open instant holds, where it holds one of each column: for a look whether those of a frame are the same. That
+    /// it tells them is left open.
+    fn first_blocks(&self, instant: u64) -> Option<&RowBlocks>
+        ensures { IfSome result (λ blocks. option_map (λ (row : OpenRowView). firsts row.columns)
+            (row_at instant (content self.now).open_rows) ≡ Some blocks.now) }
+    {
         let _ = instant;
         None
     }

@@ -1,4 +1,4 @@
-use Rattle.std.proofs.Common.{arith, eqb, ◌≡◌, ◌<◌, ◌∙◌, ap, ℕ, ◌%◌, cond, if◌then◌else◌, set, subst, sym, true, false, refl, length, None, Some}
+use Rattle.std.proofs.Common.{arith, eqb, ◌≡◌, ◌<◌, ◌∙◌, ap, ℕ, ◌%◌, cond, if◌then◌else◌, set, subst, sym, true, false, refl, length, None, Option, Some}
 use Rattle.std.specs.List.{All, list_all}
 use Rattle.std.proofs.lemmas.Bool.{ne_eqb}
 use Rattle.std.proofs.lemmas.List.{length-map}
@@ -11,9 +11,10 @@ use Rattle.pdc_table.specs.Ring.{content_of}
 use Rattle.pdc_table.specs.RingRows.{base_row, closed_rows, met_row, row_in, rows_in, with_ages}
 use Rattle.pdc_table.specs.Steps.{after_put, after_take, fresh_row, is_near_all, put_answer}
 use Rattle.pdc_open_row.specs.Taking.{answer_at, is_taken, with_frame}
+use Rattle.pdc_open_row.specs.Twin.{IsTwinIn}
 use Rattle.pdc_table.specs.TableView.{TableView}
 use Rattle.pdc_table.proofs.Keeps.{has_room, keeps-offered}
-use Rattle.pdc_table.proofs.RingAges.{aged_answer, aged_closed, aged_placed, aged_put, aged_ring, aged_row, ages_kept}
+use Rattle.pdc_table.proofs.RingAges.{aged_answer, aged_closed, aged_placed, aged_put, aged_ring, aged_row, aged_twin, ages_kept}
 use Rattle.pdc_table.proofs.RingClosed.{near_closed, ring_held, written_closed, written_placed}
 use Rattle.pdc_table.proofs.RingKept.{IsPutInto, IsRing, met_in, put_kept, put_rows, sized_in}
 use Rattle.pdc_table.proofs.RingPut.{far_content, put_content, put_far, put_near}
@@ -77,8 +78,23 @@ take-requires-clause-columns g c k d l =
     sized_in c.self.inside.circle.window c.self.inside.closed.last (streams_of (content_of c.self.inside)) c.self.inside.columns c.args.instant c.self.inside.rows.places.items c.self.inside.rows.open.items least ring in
     let columns : All (λ (cell : ℕ × CellView). cell.0 < c.self.inside.columns) (g.C.Blocks.cells c.args.blocks.now c.args.quality) =
     subst (λ (t : TableView). All (λ (cell : ℕ × CellView). cell.0 < t.content.columns) (g.C.Blocks.cells c.args.blocks.now c.args.quality)) (sym c.self.view_is)
-    c.requires.columns_exist in
+    c.requires.put.columns_exist in
     omega (arith, columns k d l, sized.columns)
+
+pub take-requires-clause-twin : goal.take-requires-clause-twin
+take-requires-clause-twin g c =
+    let window = c.self.inside.circle.window in
+    let places = c.self.inside.rows.places.items in
+    let ages = c.self.inside.rows.ages.items in
+    let instants = c.self.inside.rows.open.items in
+    let least : 0 < window = omega (arith, c.self.invariant.content.window_least) in
+    let ring : IsRing window c.self.inside.closed.last (streams_of (content_of c.self.inside)) c.self.inside.columns (with_ages places ages) instants =
+    aged_ring window c.self.inside.closed.last (streams_of (content_of c.self.inside)) c.self.inside.columns places ages instants least c.self.invariant.ages
+    (record { size = c.self.invariant.size; each = c.self.invariant.each; placed = c.self.invariant.placed; known = c.self.invariant.known; stand = c.self.invariant.stand }) in
+    aged_twin (g.C.Blocks.twin c.args.blocks.now) places ages window c.args.instant least c.self.invariant.size c.self.invariant.ages
+    (subst (λ (row : Option OpenRowView). IsTwinIn (g.C.Blocks.twin c.args.blocks.now) row)
+    (met_in window c.self.inside.closed.last (streams_of (content_of c.self.inside)) c.self.inside.columns c.args.instant (with_ages places ages) instants least c.if-instant-self.false ring)
+    (subst (λ (t : TableView). IsTwinIn (g.C.Blocks.twin c.args.blocks.now) (row_at c.args.instant t.content.open_rows)) (sym c.self.view_is) c.requires.twin))
 
 -- the put, as the code makes it
 
