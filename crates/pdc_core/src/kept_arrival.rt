@@ -227,7 +227,10 @@ impl KeptArrival {
             if own.set(payload) {
                 *own_instant = instant;
                 *own_quality = quality;
-                *claim = None;
+                // Nearly always it is none: then its bytes are not written again.
+                if claim.is_some() {
+                    *claim = None;
+                }
                 return Ok(());
             }
         }

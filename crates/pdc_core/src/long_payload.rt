@@ -2,10 +2,11 @@
 ghost use Rattle.std.specs.Prelude.{◌≡◌, ◌==◌, ◌++◌, IfOk, OnErr, drop, false, length, true};
 ghost use Rattle.std.specs.Option.{ForSome};
 ghost use Rattle.pdc_align.specs.pdc_frame.CheckWord.{check_word_of};
+ghost use Rattle.pdc_align.specs.pdc_row.KnownFront.{known_of};
 ghost use Rattle.pdc_core.specs.Brings.{Brings};
 ghost use Rattle.pdc_memory.specs.Asking.{WasRefused};
 
-use pdc_align::{CheckedFront, front_of};
+use pdc_align::{CheckedFront, KnownFront, front_of};
 use pdc_memory::Held;
 use std::alloc::{AllocError, Global};
 
@@ -15,8 +16,8 @@ pub struct LongPayload {
     /// The bytes. The front ends with the first 14 of them.
     pub bytes: Held<u8>,
     /// The front and the check word.
-    pub sent: Option<CheckedFront>,
-    pub ghost known: { ForSome sent (λ known. known.check ≡
+    pub sent: KnownFront,
+    pub ghost known: { ForSome (known_of sent) (λ known. known.check ≡
         check_word_of (known.bytes ++ drop 14 bytes.items)) },
 }
 
@@ -32,7 +33,7 @@ impl LongPayload {
     {
         Ok(LongPayload {
             bytes: Held::copy_of(alloc, bytes)?,
-            sent: None,
+            sent: KnownFront::unknown(),
         })
     }
 
@@ -46,7 +47,7 @@ impl LongPayload {
         if bytes.len() != self.bytes.len() {
             return false;
         }
-        self.sent = None;
+        self.sent.is_known = false;
         self.bytes.as_mut_slice().copy_from_slice(bytes);
         true
     }
@@ -57,6 +58,15 @@ impl LongPayload {
         requires { Brings frame.now self.old.bytes.items }
         ensures { self.new.bytes ≡ self.old.bytes }
     {
-        self.sent = front_of(frame);
+        self.sent.set(front_of(frame).as_ref());
+    }
+
+    /// The front and the check word of the frame in which they came, if they are known.
+    #[inline(always)]
+    pub(crate) fn sent(&self) -> Option<&CheckedFront>
+        ensures { ForSome result (λ known. known.now.check ≡
+            check_word_of (known.now.bytes ++ drop 14 self.now.bytes.items)) }
+    {
+        self.sent.as_ref()
     }
 }

@@ -9,7 +9,7 @@ ghost use Rattle.pdc_core.specs.KeptArrival.{bytes_of, can_hold};
 ghost use Rattle.pdc_core.specs.declared.payload.TheConstants.{SHORT_PAYLOAD};
 
 use crate::LongPayload;
-use pdc_align::{CheckedFront, copy_block, front_of};
+use pdc_align::{CheckedFront, KnownFront, copy_block, front_of};
 use std::alloc::{AllocError, Global};
 use std::fmt;
 use std::fmt::{Debug, Formatter};
@@ -23,7 +23,7 @@ pub const SHORT_PAYLOAD: usize = 214;
 #[derive(Drop)]
 pub struct ShortPayload {
     len: usize,
-    sent: Option<CheckedFront>,
+    sent: KnownFront,
     bytes: [u8; SHORT_PAYLOAD],
 }
 
@@ -31,6 +31,7 @@ impl Model for ShortPayload {
     ghost use Rattle.std.specs.Prelude.{◌≡◌, ◌≤◌, ◌++◌, ℕ, List, drop, take};
     ghost use Rattle.std.specs.Option.{ForSome};
     ghost use Rattle.pdc_align.specs.pdc_frame.CheckWord.{check_word_of};
+    ghost use Rattle.pdc_align.specs.pdc_row.KnownFront.{known_of};
     ghost use Rattle.pdc_core.specs.declared.payload.TheConstants.{SHORT_PAYLOAD};
 
     ghost Value = { List ℕ };
@@ -39,7 +40,7 @@ impl Model for ShortPayload {
 
     ghost invariant = { λ payload. record {
       fits : payload.len ≤ SHORT_PAYLOAD;
-      known : ForSome payload.sent (λ known. known.check ≡
+      known : ForSome (known_of payload.sent) (λ known. known.check ≡
           check_word_of (known.bytes ++ drop 14 (take payload.len payload.bytes)));
     } };
 }
@@ -52,7 +53,7 @@ impl ShortPayload {
     {
         ShortPayload {
             len: 0,
-            sent: None,
+            sent: KnownFront::unknown(),
             bytes: [0; SHORT_PAYLOAD],
         }
     }
@@ -63,7 +64,7 @@ impl ShortPayload {
         requires { length bytes.now ≤ SHORT_PAYLOAD }
         ensures { self.new ≡ bytes.now }
     {
-        self.sent = None;
+        self.sent.is_known = false;
         copy_block(&mut self.bytes[..bytes.len()], bytes);
         self.len = bytes.len();
     }
@@ -75,7 +76,7 @@ impl ShortPayload {
     {
         let _ = &other.len;
         self.set(other.as_slice());
-        self.sent = other.sent;
+        self.sent.set(other.sent.as_ref());
     }
 
     /// Keeps with them the front and the check word of the frame in which they came.
@@ -85,7 +86,7 @@ impl ShortPayload {
         ensures { self.new ≡ self.old }
     {
         let _ = &self.len;
-        self.sent = front_of(frame);
+        self.sent.set(front_of(frame).as_ref());
     }
 
     /// The front and the check word of the frame in which they came, if these are known.
@@ -201,7 +202,7 @@ impl Payload {
     {
         match self {
             Payload::Short(own) => own.sent(),
-            Payload::Long(own) => own.sent.as_ref(),
+            Payload::Long(own) => own.sent(),
         }
     }
 }

@@ -30,8 +30,8 @@ pub use open_row::{OpenRow, Places};
 pub use outcome::PutOutcome;
 pub use parts::{Cut, Part};
 pub use pdc_row::{
-    Block, Body, CheckedFront, CopyFrom, DueRow, MAX_WINDOW, MIN_WINDOW, RowBlocks, Shape, Shapes,
-    copy_block, copy_each, front_of, numbers_rise, words_are_cut,
+    Block, Body, CheckedFront, CopyFrom, DueRow, KnownFront, MAX_WINDOW, MIN_WINDOW, RowBlocks,
+    Shape, Shapes, copy_block, copy_each, front_of, numbers_rise, words_are_cut,
 };
 pub use row_blocks::WORST_QUALITY;
 pub use row_layout::RowLayout;

@@ -1,6 +1,7 @@
 pub mod CellView
 pub mod Chosen
 pub mod KeptBlocks
+pub mod KnownFront
 pub mod Quality
 pub mod Rising
 pub mod RisingLaws

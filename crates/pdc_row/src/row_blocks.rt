@@ -14,7 +14,7 @@ use crate::limits::MAX_PMUS;
 use crate::offered::are_bytes;
 use crate::present::has_data;
 use crate::shapes::{are_each_same, are_same};
-use crate::{CopyFrom, Offered, Shapes};
+use crate::{CopyFrom, KnownFront, Offered, Shapes};
 use arrayvec::ArrayVec;
 use pdc_block::{Block, Body, CheckedFront, Shape, absent, bodies_are_their_words, cut};
 use std::fmt;
@@ -40,7 +40,7 @@ pub struct RowBlocks {
     /// How many bytes they have.
     len: usize,
     /// The front and the check word of the frame in which they came, where they all came in one and that is known.
-    sent: Option<CheckedFront>,
+    sent: KnownFront,
     /// Their bytes stand in front.
     bytes: [u8; MAX_BLOCKS_LEN],
 }
@@ -51,6 +51,7 @@ impl Model for RowBlocks {
     ghost use Rattle.pdc_block.specs.pdc_frame.CheckWord.{check_word_of};
     ghost use Rattle.pdc_row.specs.CellView.{BlockView};
     ghost use Rattle.pdc_row.specs.KeptBlocks.{AreStarts, blocks_in};
+    ghost use Rattle.pdc_row.specs.KnownFront.{known_of};
     ghost use Rattle.pdc_row.specs.declared.limits.TheConstants.{MAX_PMUS};
     ghost use Rattle.pdc_row.specs.declared.row_blocks.TheConstants.{MAX_BLOCKS_LEN};
 
@@ -65,7 +66,7 @@ impl Model for RowBlocks {
       fits : blocks.len ≤ MAX_BLOCKS_LEN;
       size : blocks.len ≡ sum_by body_len_of (take blocks.count blocks.shapes);
       begun : AreStarts blocks.count blocks.shapes blocks.starts;
-      sent : IfSome blocks.sent (λ known. known.check ≡
+      sent : IfSome (known_of blocks.sent) (λ known. known.check ≡
           check_word_of (known.bytes ++ take blocks.len blocks.bytes));
     } };
 }
@@ -80,7 +81,7 @@ impl RowBlocks {
             shapes: [Shape::default(); MAX_PMUS],
             starts: [0; MAX_CUT],
             len: 0,
-            sent: None,
+            sent: KnownFront::unknown(),
             bytes: [0; MAX_BLOCKS_LEN],
         }
     }
@@ -111,7 +112,7 @@ impl RowBlocks {
     {
         self.count = 0;
         self.len = 0;
-        self.sent = None;
+        self.sent.is_known = false;
     }
 
     /// Appends a block.
@@ -128,7 +129,7 @@ impl RowBlocks {
         self.shapes[self.count] = shape;
         self.count += 1;
         self.starts[self.count] = end as u16;
-        self.sent = None;
+        self.sent.is_known = false;
     }
 
     /// Appends the absent block of a shape. A call of its own, since most blocks are present.
@@ -219,7 +220,7 @@ impl RowBlocks {
         ensures { self.new ≡ slice_set self.old place (B.view block.now) }
     {
         let _ = &self.count;
-        self.sent = None;
+        self.sent.is_known = false;
         if self.shapes[place] == block.shape() {
             let start = usize::from(self.starts[place]);
             let end = usize::from(self.starts[place + 1]);
@@ -256,7 +257,7 @@ impl RowBlocks {
         self.shapes = other.shapes;
         self.starts = other.starts;
         self.len = other.len;
-        self.sent = None;
+        self.sent.is_known = false;
     }
 
     /// Writes these bytes, which are as many, over those of the blocks, of which each keeps its shape. Where the front and the check word are
@@ -269,7 +270,7 @@ impl RowBlocks {
         ensures { self.new ≡ blocks_in (shapes_of self.old) bytes.now }
     {
         self.bytes[..self.len].copy_from_slice(bytes);
-        self.sent = sent.copied();
+        self.sent.set(sent);
     }
 
     /// The front and the check word of the frame in which they came, where they all came in one and that is known: so the check word follows of
@@ -344,7 +345,7 @@ impl CopyFrom for RowBlocks {
         self.shapes = other.shapes;
         self.starts = other.starts;
         self.len = other.len;
-        self.sent = other.sent;
+        self.sent.set(other.sent.as_ref());
         self.bytes[..other.len].copy_from_slice(&other.bytes[..other.len]);
     }
 }

@@ -18,6 +18,7 @@ mod laws;
 mod ring;
 mod ring_closing;
 mod ring_table;
+mod rows;
 mod spare;
 mod streams;
 mod table_trait;
@@ -31,9 +32,9 @@ pub use laws::{
     rows_close_where_due, rows_come_out_rising,
 };
 pub use pdc_open_row::{
-    Blocks, CheckedFront, CopyFrom, Cut, DueRow, Listed, MAX_COLUMNS, MAX_LANES, MAX_WINDOW,
-    MIN_WINDOW, OpenRow, Part, Places, PutOutcome, RowBlocks, RowLayout, Shapes, WaitRule,
-    copy_block, copy_each, copy_items, falses, front_of,
+    Blocks, CheckedFront, CopyFrom, Cut, DueRow, KnownFront, Listed, MAX_COLUMNS, MAX_LANES,
+    MAX_WINDOW, MIN_WINDOW, OpenRow, Part, Places, PutOutcome, RowBlocks, RowLayout, Shapes,
+    WaitRule, copy_block, copy_each, copy_items, falses, front_of,
 };
 pub use ring_table::RingTable;
 pub use spare::spare_row;

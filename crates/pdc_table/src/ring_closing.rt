@@ -17,7 +17,8 @@ ghost use Rattle.pdc_table.specs.Steps.{disagreements_in};
 
 use crate::circle::Circle;
 use crate::copied::copy_at_queued;
-use crate::ring::{Rows, count_disagreements, count_due};
+use crate::ring::{count_disagreements, count_due};
+use crate::rows::Rows;
 use crate::{ClosingLayout, RowLayout, WaitRule};
 use pdc_memory::{Held, HeldQueue};
 use pdc_open_row::{DueRow, OpenRow};

@@ -6,8 +6,8 @@ ghost use Rattle.pdc_table.specs.Placing.{row_at};
 ghost use Rattle.pdc_table.specs.Steps.{after_put, put_answer};
 
 use crate::circle::Circle;
-use crate::ring::Rows;
 use crate::ring_closing::Closed;
+use crate::rows::Rows;
 use crate::{
     MAX_COLUMNS, PutOutcome, RowLayout, Table, WaitRule, lane_of, ring, ring_closing, stream_count,
 };

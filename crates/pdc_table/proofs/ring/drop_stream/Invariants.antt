@@ -7,7 +7,7 @@ use Rattle.pdc_table.proofs.ring.drop_stream.Given as goal
 
 abbrev pub invariant-loop-instant : goal.invariant-loop-instant
 invariant-loop-instant l = record {
-  left : changed (without_stream l.lanes l.stream) l.circle.window (drop l.instant-index l.open) l.places.items ≡ changed (without_stream l.lanes l.stream) l.circle.window l.open l.initial.places.items;
+  left : changed (without_stream l.lanes l.stream) l.circle.window (drop l.instant-index l.instants) l.places.items ≡ changed (without_stream l.lanes l.stream) l.circle.window l.instants l.initial.places.items;
   size : length l.places.items ≡ l.circle.window;
   taken : All (λ (row : OpenRowView). l.stream < length row.taken) l.places.items;
   columns : l.lanes ≡ 1 → All (λ (row : OpenRowView). l.stream < length row.columns) l.places.items;

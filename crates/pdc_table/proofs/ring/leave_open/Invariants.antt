@@ -5,7 +5,7 @@ use Rattle.pdc_table.proofs.ring.leave_open.Given as goal
 
 abbrev pub invariant-loop-instant : goal.invariant-loop-instant
 invariant-loop-instant l = record {
-  left : changed without_instant l.circle.window (drop l.instant-index l.open) l.places.items ≡ changed without_instant l.circle.window l.open l.initial.places.items;
+  left : changed without_instant l.circle.window (drop l.instant-index l.instants) l.places.items ≡ changed without_instant l.circle.window l.instants l.initial.places.items;
   size : length l.places.items ≡ l.circle.window;
   capacity : l.places.capacity ≡ l.initial.places.capacity;
 }

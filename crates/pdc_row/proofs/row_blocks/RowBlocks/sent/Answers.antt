@@ -5,6 +5,7 @@ use Rattle.std.proofs.lemmas.List.{length-take-le}
 use Rattle.pdc_block.specs.declared.CheckedFront.{CheckedFront}
 use Rattle.pdc_block.specs.pdc_frame.CheckWord.{check_word_of}
 use Rattle.pdc_row.specs.KeptBlocks.{bytes_of}
+use Rattle.pdc_row.specs.KnownFront.{known_of}
 use Rattle.pdc_row.proofs.KeptLemmas.{spelled}
 use Rattle.pdc_row.proofs.row_blocks.RowBlocks.sent.Goals as goal
 
@@ -19,7 +20,7 @@ lent_as_kept rest bytes kept (Some known) same e h =
 pub returns : goal.returns
 returns c =
     let i = c.self.inside in
-    lent_as_kept (take i.len i.bytes) (bytes_of c.args.self.now) i.sent c.as_ref.result c.as_ref.ensures.value
+    lent_as_kept (take i.len i.bytes) (bytes_of c.args.self.now) (known_of i.sent) c.as_ref.result c.as_ref.ensures
     (spelled c.bodies_are_their_words.ensures.words (take i.count i.shapes) (take i.len i.bytes) c.are_bytes.ensures (length-take-le i.len i.bytes (omega (arith, c.self.told, c.self.invariant.fits)) ∙ c.self.invariant.size)
     ∙ ap bytes_of c.self.view_is)
     c.self.invariant.sent

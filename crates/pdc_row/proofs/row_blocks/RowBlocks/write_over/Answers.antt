@@ -7,6 +7,7 @@ use Rattle.pdc_block.specs.Block.{body_len_of}
 use Rattle.pdc_block.specs.declared.CheckedFront.{CheckedFront}
 use Rattle.pdc_block.specs.pdc_frame.CheckWord.{check_word_of}
 use Rattle.pdc_row.specs.KeptBlocks.{blocks_in, shapes_of}
+use Rattle.pdc_row.specs.KnownFront.{known_of}
 use Rattle.pdc_row.proofs.KeptLemmas.{shapes_are}
 use Rattle.pdc_row.proofs.row_blocks.RowBlocks.write_over.Goals as goal
 
@@ -44,6 +45,6 @@ invariant_of-self c =
       size = c.self.invariant.size;
       begun = c.self.invariant.begun;
       sent =
-          kept_as_lent _ c.args.bytes.now c.args.sent c.copied-self-inside.result c.copied-self-inside.ensures (take_at c.copy_from_slice.new.self (drop i.len i.bytes) i.len long ∙ c.copy_from_slice.ensures.after)
+          kept_as_lent _ c.args.bytes.now c.args.sent (known_of c.set.new.self) c.set.ensures (take_at c.copy_from_slice.new.self (drop i.len i.bytes) i.len long ∙ c.copy_from_slice.ensures.after)
           c.requires.sent;
     }

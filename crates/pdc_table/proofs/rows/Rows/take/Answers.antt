@@ -6,8 +6,8 @@ use Rattle.pdc_open_row.specs.Views.{OpenRowView, blank_row}
 use Rattle.pdc_table.specs.RingRows.{row_in}
 use Rattle.pdc_table.proofs.RingAges.{twin_met}
 use Rattle.pdc_open_row.proofs.Twins.{twin_blank}
-use Rattle.pdc_table.proofs.ring.Rows.take.Goals as goal
-use Rattle.pdc_table.proofs.ring.Rows.take.Goals.{then-instant-here, else-instant-here}
+use Rattle.pdc_table.proofs.rows.Rows.take.Goals as goal
+use Rattle.pdc_table.proofs.rows.Rows.take.Goals.{then-instant-here, else-instant-here}
 
 pub offer-requires-clause-twin : goal.offer-requires-clause-twin
 offer-requires-clause-twin g c =

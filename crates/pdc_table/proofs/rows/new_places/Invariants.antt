@@ -1,6 +1,6 @@
 use Rattle.std.proofs.Common.{◌≡◌, ◌≤◌, length, replicate}
 use Rattle.pdc_open_row.specs.Views.{blank_row}
-use Rattle.pdc_table.proofs.ring.new_places.Given as goal
+use Rattle.pdc_table.proofs.rows.new_places.Given as goal
 
 abbrev pub invariant-loop : goal.invariant-loop
 invariant-loop l = record {
