@@ -11,7 +11,7 @@ use pdc_node::Node;
 use pdc_publisher::{Published, Publisher, spare_frame};
 use pdc_row::Output;
 use pdc_settings::{MergerSettings, NodeSettings};
-use pdc_table::{DueRow, RingTable, spare_row};
+use pdc_table::{DueRow, HeldBox, RingTable, spare_row};
 use std::alloc::{AllocError, Global};
 
 /// All counts may be adopted.
@@ -37,7 +37,7 @@ struct Concentrator<C: Core + Drop> {
     /// What each datagram says is kept here.
     kept: KeptArrival,
     /// Each row is popped into this one,
-    row: DueRow,
+    row: HeldBox<DueRow>,
     /// and published into this frame.
     frame: Published,
     /// What counts as now at the next tick.
@@ -50,22 +50,28 @@ struct Concentrator<C: Core + Drop> {
 
 impl<C: Core + Drop> Concentrator<C> {
     /// Up to this instant all is published, and the first tick is at it.
-    fn new(alloc: Global, core: C, streams: usize, output: Output, floor: u64) -> Concentrator<C>
+    fn new(
+        alloc: Global,
+        core: C,
+        streams: usize,
+        output: Output,
+        floor: u64,
+    ) -> Result<Concentrator<C>, AllocError>
         requires same_streams { streams ≡ C.Settings.streams (C.settings_of core) }
         requires some_streams { 0 < streams }
     {
-        Concentrator {
+        Ok(Concentrator {
             alloc,
             core,
             streams,
             output,
             publisher: Publisher::new(ModelMark::new(1, floor), output, 0),
             kept: KeptArrival::blank(),
-            row: spare_row(),
+            row: spare_row(alloc)?,
             frame: spare_frame(&output),
             now: floor,
             mixed: 0,
-        }
+        })
     }
 
     /// Takes a datagram as the running program does: what it says is read and kept, and that arrives.
@@ -104,12 +110,13 @@ impl<C: Core + Drop> Concentrator<C> {
             return;
         }
         let end = SECONDS * u64::from(self.output.rate);
-        if self.row.instant <= self.publisher.last() || self.row.instant >= end {
+        let row = self.row.get();
+        if row.instant <= self.publisher.last() || row.instant >= end {
             return;
         }
         if self
             .publisher
-            .publish_into(&self.row, &mut self.frame)
+            .publish_into(row, &mut self.frame)
             .is_ok()
         {
             self.mixed = with_end(self.mixed, self.frame.bytes.as_slice());
@@ -180,7 +187,7 @@ fn open_node(alloc: Global, text: &str, floor: u64) -> Option<Concentrator<Node<
     let life = NodeSettings::from_toml(alloc, text).ok()?.life;
     let (streams, output) = (life.pmus.len(), life.output);
     let node = Node::open(alloc, life, 1, floor, &[0; MAX_PMUS], floor).ok()?;
-    Some(Concentrator::new(alloc, node, streams, output, floor))
+    Concentrator::new(alloc, node, streams, output, floor).ok()
 }
 
 /// The merger of these settings, a TOML text; none where they are refused or memory runs out.
@@ -188,7 +195,7 @@ fn open_merger(alloc: Global, text: &str, floor: u64) -> Option<Concentrator<Mer
     let life = MergerSettings::from_toml(alloc, text).ok()?.life;
     let output = life.output;
     let merger = Merger::open(alloc, life, 1, floor, &[0; MAX_PMUS], floor).ok()?;
-    Some(Concentrator::new(alloc, merger, NODES, output, floor))
+    Concentrator::new(alloc, merger, NODES, output, floor).ok()
 }
 
 /// Runs a node of these settings, a TOML text, over the steps: [`Concentrator::run`]; 0 where the settings are refused or memory runs

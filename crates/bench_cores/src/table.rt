@@ -4,7 +4,7 @@ ghost use Rattle.std.specs.Prelude.{◌≡◌, ◌<◌, ◌≤◌};
 use arrayvec::ArrayVec;
 use pdc_block::Body;
 use pdc_cfg::Shape;
-use pdc_table::{DueRow, RingTable, RowLayout, Table, WaitRule, spare_row};
+use pdc_table::{DueRow, HeldBox, RingTable, RowLayout, Table, WaitRule, spare_row};
 use std::alloc::{AllocError, Global};
 use try_script::SortedTable;
 
@@ -30,7 +30,7 @@ struct Aligner<'a, T: Table> {
     /// The bodies that the streams send for four instants, one behind the other: they lie in memory, as those of datagrams do.
     bodies: &'a [u8],
     /// Each row is popped into this one.
-    row: DueRow,
+    row: HeldBox<DueRow>,
     mixed: u64,
     ghost one_lane: { (T.content table).lanes ≡ 1 },
     ghost counted: { (T.content table).columns ≡ 16 },
@@ -51,7 +51,7 @@ impl<'a, T: Table> Aligner<'a, T> {
             table: T::new(alloc, window, STREAMS, 1, 0)?,
             layout: RowLayout::new(1, 0, shapes),
             bodies,
-            row: spare_row(),
+            row: spare_row(alloc)?,
             mixed: 0,
         })
     }
@@ -94,7 +94,7 @@ impl<'a, T: Table> Aligner<'a, T> {
 
     fn pop(&mut self) {
         if self.table.pop_into(&mut self.row) {
-            self.mixed = self.mixed.rotate_left(1) ^ mix(&self.row);
+            self.mixed = self.mixed.rotate_left(1) ^ mix(self.row.get());
         }
     }
 }

@@ -10,7 +10,7 @@ use pdc_life::{MAX_PMUS, Settings};
 use pdc_log::{Front, Log};
 use pdc_node::{Node, copy_of};
 use pdc_service::MAX_LIMIT;
-use pdc_table::{DueRow, RingTable, spare_row};
+use pdc_table::{DueRow, HeldBox, RingTable, spare_row};
 use std::alloc::Global;
 use std::marker::Brand;
 use std::rt::Clock;
@@ -68,7 +68,7 @@ fn take_instant<N: Naming<Settings>, R: Wait>(
     core: &mut Replayed<Node<RingTable>, N>,
     front: &mut Front<N>,
     kept: &mut KeptArrival,
-    row: &mut DueRow,
+    row: &mut HeldBox<DueRow>,
     frames: &Frames,
     number: u32,
 ) -> bool
@@ -110,7 +110,9 @@ fn record_all<N: Naming<Settings>, R: Wait>(
         return false;
     };
     let mut kept = KeptArrival::blank();
-    let mut row = spare_row();
+    let Ok(mut row) = spare_row(alloc) else {
+        return false;
+    };
     for number in 0..=frames.count {
         if !take_instant(
             rt, alloc, settings, &mut core, &mut front, &mut kept, &mut row, frames, number,

@@ -27,7 +27,7 @@ ghost use Rattle.pdc_align.specs.Calls.{first_of_plan, row_layout_in, waiting_in
 use crate::{Column, Plan, columns};
 use pdc_arrival::{ColumnSection, MAX_PMUS, SectionView, Shape, WaitKind};
 use pdc_memory::Held;
-use pdc_table::{CopyFrom, DueRow, RowBlocks, RowLayout, Table, copy_each};
+use pdc_table::{CopyFrom, DueRow, HeldBox, RowBlocks, RowLayout, Table, copy_each};
 use std::alloc::{AllocError, Global};
 use std::marker::Model;
 
@@ -247,8 +247,8 @@ impl<T: Table> Alignment<T> {
         row
     }
 
-    /// Takes out the first row that waits, and writes it over this one. Whether there was one.
-    pub(crate) fn take_into(&mut self, row: &mut DueRow) -> bool
+    /// Takes out the first row that waits, and hands it out in place of this one. Whether there was one.
+    pub(crate) fn take_into(&mut self, row: &mut HeldBox<DueRow>) -> bool
         ensures answer { popped_into result row.new ≡ table.pop_answer self.old.state.content }
         ensures none { result ≡ false → row.new ≡ row.old }
         ensures state { self.new.state ≡ after_pop_of self.old.state }
@@ -263,7 +263,7 @@ impl<T: Table> Alignment<T> {
     {
         let is_some = self.table.pop_into(row);
         if is_some {
-            self.popped = row.instant;
+            self.popped = row.get().instant;
         }
         is_some
     }

@@ -33,7 +33,7 @@ use crate::closing_laws::{rows_are_those, tick_is_tick};
 use crate::state_laws::{answers_agree, others_leave_it, take_is_take};
 use crate::{Alignment, Plan, Ticked};
 use pdc_arrival::{Body, ColumnSection, MAX_PMUS, Outcome};
-use pdc_table::{Cut, DueRow, Part, RowLayout, Table};
+use pdc_table::{Cut, DueRow, HeldBox, Part, RowLayout, Table};
 use std::alloc::{AllocError, Global};
 
 impl<T: Table> Alignment<T> {
@@ -177,8 +177,8 @@ impl<T: Table> Alignment<T> {
         self.take_due()
     }
 
-    /// Takes the lowest closed row that was not popped, and writes it over this one. Whether there was one; else the row stays.
-    pub fn pop_into(&mut self, row: &mut DueRow) -> bool
+    /// Takes the lowest closed row that was not popped, and hands it out in place of this one. Whether there was one; else the row stays.
+    pub fn pop_into(&mut self, row: &mut HeldBox<DueRow>) -> bool
         ensures answer { (g : Given) (E : List Entry) → StandsFor g E self.old.state →
             popped_into result row.new ≡ pop_answer E }
         ensures none { result ≡ false → row.new ≡ row.old }

@@ -92,7 +92,7 @@ fn next_row<C: Core + Drop, N: Naming<C::Settings>, M: Mark, R: Wait>(
     ensures row { result.answer ≡ true → HasPoppedOne pops.old pops.new }
     ensures turned { AddsPop C.rules N.given pops.old pops.new result }
     ensures tagged { result.answer ≡ true →
-        pops.new.row.instant < SECONDS * (output_in publisher.now).rate }
+        pops.new.row.value.instant < SECONDS * (output_in publisher.now).rate }
     ensures none { result.answer ≡ false → HasPoppedNone pops.old pops.new }
     ensures parts { HasSameShares pops.old pops.new }
     ensures ticks { ticks_of pops.new.front ≡ ticks_of pops.old.front }
@@ -143,7 +143,7 @@ pub fn publish_due<C: Core + Drop, N: Naming<C::Settings>, M: Mark, K: Ticker, R
             ticker.note(step, &Did::FoundNone);
             return Ok(step);
         }
-        if let Err(fault) = publish_one(rt, publisher, ticker, step, &pops.row, writer) {
+        if let Err(fault) = publish_one(rt, publisher, ticker, step, pops.row.get(), writer) {
             return Err(fault);
         }
     }

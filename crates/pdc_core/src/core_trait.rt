@@ -26,6 +26,7 @@ ghost use Rattle.pdc_align.specs.pdc_frame.declared.tag_limits.TheConstants.{SEC
 
 use crate::{CoreStep, KeptArrival, Reads, Reply};
 use pdc_align::{Arrival, Buffer, Counts, DueRow, MAX_PMUS, Outcome, Ticked};
+use pdc_memory::HeldBox;
 use std::alloc::AllocError;
 
 /// The core of a concentrator: for every life that it stands for, each call answers as the life does, and the core then stands for
@@ -120,8 +121,9 @@ pub trait Core {
         ensures settings { settings_of self.new ≡ settings_of self.old }
         ensures memory { memory self.new ≡ memory self.old };
 
-    /// Takes the lowest row that closed and was not popped, and writes it over this one. Whether there was one; else the row stays.
-    fn pop_into(&mut self, row: &mut DueRow) -> bool
+    /// Takes the lowest row that closed and was not popped, and hands it out in place of this one, whose memory it may keep for a row that comes.
+    /// Whether there was one; else the row stays.
+    fn pop_into(&mut self, row: &mut HeldBox<DueRow>) -> bool
         ensures answer { (g : Given) (E : List Entry) → stands_for self.old g E →
             popped_into result row.new ≡ pop_answer E }
         ensures none { result ≡ false → row.new ≡ row.old }

@@ -24,7 +24,7 @@ AddsTick make rules named now counts before after numbered =
 
 -- or a pop, whose row is kept then.
 abbrev pub AddsPop : {N M : Type 0} → Rules → Option Given → (before after : Pops N M) → Numbered Bool → Type 0
-AddsPop rules named before after numbered = HasTurned rules named ToPop before.front after.front numbered.step (λ g E. IsPop numbered.answer after.row (pop_answer E))
+AddsPop rules named before after numbered = HasTurned rules named ToPop before.front after.front numbered.step (λ g E. IsPop numbered.answer after.row.value (pop_answer E))
 
 -- The layout that is in force in the life that was seen, dated with this second, was appended to these bytes.
 abbrev pub IsLayoutBehind : Rules → Option Given → (seen : List ReadStep) → (second : ℕ) (before after : List ℕ) → Type 0

@@ -30,8 +30,8 @@ HasAllTop pops top = (pops.top.parts ≡ top.parts) × (0 < pops.top.parts)
 
 -- One row was popped between the one and the other, above all before, and it was counted.
 pub record HasPoppedOne {N M : Type 0} (before after : Pops N M) : Type 0 where
-  pub above : before.top.amount < after.row.instant
-  pub top : after.top.amount ≡ after.row.instant
+  pub above : before.top.amount < after.row.value.instant
+  pub top : after.top.amount ≡ after.row.value.instant
   pub counted : popped_by after ≡ popped_by before + 1
 
 -- None was popped between the one and the other.

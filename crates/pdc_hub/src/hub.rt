@@ -17,14 +17,14 @@ ghost use Rattle.pdc_hub.specs.Pops.{popped_by};
 ghost use Rattle.pdc_hub.specs.Pops.{HasPoppedNone, HasPoppedOne, HasSameShares};
 ghost use Rattle.pdc_hub.specs.Replay.{AreSaid, WasRead};
 ghost use Rattle.pdc_log.specs.Log.{InTheLife, came_in};
-ghost use Rattle.pdc_memory.specs.Asking.{ForSome, WasRefused};
+ghost use Rattle.pdc_memory.specs.Asking.{ForSome, SomeWasRefused};
 ghost use mathlib.Core.List.{IsPrefix};
 
 use crate::fault::HubFault;
 use crate::ledgers::{ConfiguredIn, RefusedIn, TakenIn, TopIn, TurnsIn};
 use crate::locked_core::LockedCore;
 use crate::naming::Naming;
-use crate::pops::Pops;
+use crate::pops::{Pops, spare_row};
 use crate::shares::{Blanks, Books, Shares};
 use pdc_core::{Core, Counts, KeptArrival, Ticked};
 use pdc_frame::Buffer;
@@ -50,7 +50,7 @@ impl<C: Core + Drop, N: Naming<C::Settings>> Hub<C, N> {
     ///
     /// # Errors
     ///
-    /// [`AllocError`] where a request for the room of so many steps was refused.
+    /// [`AllocError`] where a request for the room of so many steps was refused, or one for the row that is popped.
     pub fn new<M>(
         alloc: Global,
         base: C,
@@ -73,8 +73,9 @@ impl<C: Core + Drop, N: Naming<C::Settings>> Hub<C, N> {
             × (made.2.top.amount ≡ floor)) }
         ensures none { IfOk result (λ made. (popped_by made.2 ≡ 0) × (made.1.front ≡ [])
             × (made.2.front ≡ [])) }
-        ensures denied { OnErr result (WasRefused limit) }
+        ensures denied { OnErr result SomeWasRefused }
     {
+        let row = spare_row(alloc)?;
         let Blanks {
             taken,
             refused,
@@ -110,7 +111,7 @@ impl<C: Core + Drop, N: Naming<C::Settings>> Hub<C, N> {
                 configured: mine_configured,
                 front,
             },
-            Pops::new(mine_top, mine_turns, pops_front),
+            Pops::new(mine_top, mine_turns, pops_front, row),
         ))
     }
 
@@ -165,7 +166,7 @@ impl<C: Core + Drop, N: Naming<C::Settings>> Hub<C, N> {
         self.table.lock(rt).tick(rt, pops, now, &counts)
     }
 
-    /// Pops the lowest row that closed and was not popped, which is written over the one popped before, and counts it. Whether there was one.
+    /// Pops the lowest row that closed and was not popped, which takes the place of the one popped before, and counts it. Whether there was one.
     /// It lies above all rows popped before, and its instant can be tagged. The answer bears the number of the step.
     pub fn pop<M, R: Wait>(&self, rt: &R, pops: &mut Pops<N, M>) -> Numbered<bool>
         requires top { HasAllTop pops.old N.top }
@@ -173,7 +174,7 @@ impl<C: Core + Drop, N: Naming<C::Settings>> Hub<C, N> {
         ensures turned { AddsPop C.rules N.given pops.old pops.new result }
         // A row that was popped lies above all before, and is counted; only such a row is.
         ensures row { result.answer ≡ true → HasPoppedOne pops.old pops.new }
-        ensures tagged { result.answer ≡ true → CanBeTagged N.given pops.new.row }
+        ensures tagged { result.answer ≡ true → CanBeTagged N.given pops.new.row.value }
         ensures none { result.answer ≡ false → HasPoppedNone pops.old pops.new }
         ensures parts { HasSameShares pops.old pops.new }
     {

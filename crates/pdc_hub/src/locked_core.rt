@@ -228,7 +228,7 @@ impl<C: Core + Drop, N: Naming<C::Settings>> LockedCore<C, N> {
         Numbered { step, answer }
     }
 
-    /// Pops the lowest row that closed and was not popped, which is written over the one popped before, and counts it. Whether there was one.
+    /// Pops the lowest row that closed and was not popped, which takes the place of the one popped before, and counts it. Whether there was one.
     /// It lies above all rows popped before, and its instant can be tagged.
     pub fn pop<M, R: Wait>(&mut self, rt: &R, pops: &mut Pops<N, M>) -> Numbered<bool>
         requires top { HasAllTop pops.old N.top }
@@ -236,7 +236,7 @@ impl<C: Core + Drop, N: Naming<C::Settings>> LockedCore<C, N> {
         ensures turned { AddsPop C.rules N.given pops.old pops.new result }
         // A row that was popped lies above all before, and is counted; only such a row is.
         ensures row { result.answer ≡ true → HasPoppedOne pops.old pops.new }
-        ensures tagged { result.answer ≡ true → CanBeTagged N.given pops.new.row }
+        ensures tagged { result.answer ≡ true → CanBeTagged N.given pops.new.row.value }
         ensures none { result.answer ≡ false → HasPoppedNone pops.old pops.new }
         ensures parts { HasSameShares pops.old pops.new }
     {
@@ -263,8 +263,9 @@ impl<C: Core + Drop, N: Naming<C::Settings>> LockedCore<C, N> {
         if !answer {
             return Numbered { step, answer };
         }
-        top.add(all, row.instant - *popped);
-        *popped = row.instant;
+        let instant = row.get().instant;
+        top.add(all, instant - *popped);
+        *popped = instant;
         *count += 1;
         Numbered { step, answer }
     }

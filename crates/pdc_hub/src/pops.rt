@@ -1,10 +1,13 @@
 //! Who pops, and what was popped.
-ghost use Rattle.std.specs.Prelude.{◌≤◌, ◌≡◌, []};
+ghost use Rattle.std.specs.Prelude.{◌≤◌, ◌≡◌, [], OnErr};
 ghost use Rattle.pdc_log.specs.Log.{turned_in};
+ghost use Rattle.pdc_memory.specs.Asking.{WasRefused};
 
 use crate::ledgers::{Ledgers, TopIn, TurnsIn};
 use pdc_log::Front;
+use pdc_memory::HeldBox;
 use pdc_row::{DueRow, RowBlocks};
+use std::alloc::{AllocError, Global};
 use std::marker::PhantomData;
 use std::sync::ledger::Share;
 
@@ -14,8 +17,8 @@ use std::sync::ledger::Share;
 pub struct Pops<N: Ledgers, M> {
     /// The whole share of the greatest instant popped.
     pub top: Share<TopIn<N>>,
-    /// The row that was popped last; at first one of instant 0, without blocks. The next one is written over it.
-    pub row: DueRow,
+    /// The row that was popped last; at first one of instant 0, without blocks. The next one takes its place.
+    pub row: HeldBox<DueRow>,
     pub(crate) count: u64,
     /// What was seen of the log.
     pub front: Front<N>,
@@ -31,15 +34,20 @@ pub struct Pops<N: Ledgers, M> {
 impl<N: Ledgers, M> Pops<N, M> {
     ghost use Rattle.pdc_hub.specs.Pops.{popped_by};
 
-    /// With this share no row was popped yet.
-    pub(crate) fn new(top: Share<TopIn<N>>, turns: Share<TurnsIn<N>>, front: Front<N>) -> Pops<N, M>
+    /// With this share no row was popped yet. The first one takes the place of this one.
+    pub(crate) fn new(
+        top: Share<TopIn<N>>,
+        turns: Share<TurnsIn<N>>,
+        front: Front<N>,
+        row: HeldBox<DueRow>,
+    ) -> Pops<N, M>
         requires { (turns.amount ≡ 0) × (front ≡ []) }
         ensures top { (result.top ≡ top) × (result.turns ≡ turns) × (result.front ≡ front) }
         ensures none { popped_by result ≡ 0 }
     {
         Pops {
             top,
-            row: spare_row(),
+            row,
             count: 0,
             front,
             turns,
@@ -55,13 +63,20 @@ impl<N: Ledgers, M> Pops<N, M> {
     }
 }
 
-/// A row of instant 0, without blocks, to be written over.
-pub(crate) fn spare_row() -> DueRow {
-    DueRow {
+/// A row of instant 0, without blocks, whose place the first that is popped takes.
+///
+/// # Errors
+///
+/// [`AllocError`] where a request for the memory of a row was refused.
+pub(crate) fn spare_row(alloc: Global) -> Result<HeldBox<DueRow>, AllocError>
+    ensures { OnErr result (WasRefused 1) }
+{
+    let row = DueRow {
         instant: 0,
         start: 0,
         change: 0,
         quality: 15,
         blocks: RowBlocks::new(),
-    }
+    };
+    HeldBox::new(alloc, row)
 }

@@ -19,6 +19,7 @@ use crate::steps::Steps;
 use pdc_core::{Core, CoreStep, KeptArrival, Ticked};
 use pdc_life::{MAX_PMUS, Outcome};
 use pdc_log::{Add, Arriving, Front, Log, Popping, Ticking};
+use pdc_memory::HeldBox;
 use pdc_row::DueRow;
 use std::alloc::{AllocError, Global};
 use std::marker::PhantomData;
@@ -185,18 +186,23 @@ impl<C: Core + Drop, N: Naming<C::Settings>> Replayed<C, N> {
         ticked
     }
 
-    /// Pops a row, which is written over this one, and keeps the step. Whether there was one; else the row stays. Where the list is full, the
-    /// base is brought up first.
-    pub fn pop_into<R: Wait>(&mut self, rt: &R, front: &mut Front<N>, row: &mut DueRow) -> bool
+    /// Pops a row, which is handed out in place of this one, and keeps the step. Whether there was one; else the row stays. Where the list is full,
+    /// the base is brought up first.
+    pub fn pop_into<R: Wait>(
+        &mut self,
+        rt: &R,
+        front: &mut Front<N>,
+        row: &mut HeldBox<DueRow>,
+    ) -> bool
         ensures answer { (g : Given) (E : List Entry) → C.stands_for self.old.state g E →
-            IsPop result row.new (pop_answer E) }
+            IsPop result row.new.value (pop_answer E) }
         ensures stands { Follows C.rules (C.stands_for self.old.state)
             (C.stands_for self.new.state) ToPop }
         ensures logged { HasLogged ToPop self.old.log.seen.log self.new.log.seen.log front.old
             front.new }
-        ensures rises { result ≡ true → C.popped_of self.old.state < row.new.instant }
-        ensures tagged { result ≡ true → CanBeTagged N.given row.new }
-        ensures popped { (result ≡ true → C.popped_of self.new.state ≡ row.new.instant)
+        ensures rises { result ≡ true → C.popped_of self.old.state < row.new.value.instant }
+        ensures tagged { result ≡ true → CanBeTagged N.given row.new.value }
+        ensures popped { (result ≡ true → C.popped_of self.new.state ≡ row.new.value.instant)
             × (result ≡ false → C.popped_of self.new.state ≡ C.popped_of self.old.state) }
         ensures none { result ≡ false → row.new ≡ row.old }
         ensures counts { C.counts_of self.new.state ≡ C.counts_of self.old.state }

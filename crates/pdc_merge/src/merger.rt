@@ -21,7 +21,7 @@ use pdc_arrival::{Arrival, Counts, Reading, arrival_from_node, hear_from_node};
 use pdc_core::{Core, KeptArrival};
 use pdc_frame::{Buffer, FrontDifference};
 use pdc_life::{MAX_PMUS, MergerSettings, Outcome, lives_are_runs, rows_have_tags};
-use pdc_table::{DueRow, Table};
+use pdc_table::{DueRow, HeldBox, Table};
 use std::alloc::{AllocError, Global};
 use std::marker::Model;
 
@@ -229,7 +229,7 @@ impl<T: Table> Core for Merger<T> {
         self.alignment.pop_due()
     }
 
-    fn pop_into(&mut self, row: &mut DueRow) -> bool {
+    fn pop_into(&mut self, row: &mut HeldBox<DueRow>) -> bool {
         rows_have_tags();
         self.alignment.pop_into(row)
     }

@@ -23,7 +23,7 @@ use pdc_frame::Buffer;
 use pdc_life::{
     MAX_PMUS, Outcome, Reading, Refusal, SectionView, Settings, lives_are_runs, rows_have_tags,
 };
-use pdc_table::{DueRow, Table};
+use pdc_table::{DueRow, HeldBox, Table};
 use std::alloc::{AllocError, Global};
 use std::marker::Model;
 
@@ -263,7 +263,7 @@ impl<T: Table> Core for Node<T> {
         self.alignment.pop_due()
     }
 
-    fn pop_into(&mut self, row: &mut DueRow) -> bool {
+    fn pop_into(&mut self, row: &mut HeldBox<DueRow>) -> bool {
         rows_have_tags();
         self.alignment.pop_into(row)
     }

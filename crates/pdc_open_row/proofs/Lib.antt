@@ -3,6 +3,7 @@ pub mod Blank
 pub mod CutParts
 pub mod FrontRows
 pub mod HeldOnce
+pub mod Lent
 pub mod OpenRowParts
 pub mod RowSteps
 pub mod TakenParts
@@ -12,3 +13,4 @@ pub mod WholeRows
 pub use Rattle.pdc_row.proofs as pdc_row
 pub use Rattle.pdc_row.proofs.pdc_block
 pub use Rattle.pdc_row.proofs.pdc_cfg
+pub use Rattle.pdc_memory.proofs as pdc_memory

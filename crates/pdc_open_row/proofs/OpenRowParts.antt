@@ -93,6 +93,13 @@ all_dropped columns hs ws fs ss e k h m =
     ∙ columns_emptied (length hs) fs ss (omega (arith, h)) (omega (arith, m))
     ∙ ap (λ n. replicate n empty_column) (sym (columns_seen columns hs fs ss e (omega (arith, h)) (omega (arith, m))))
 
+-- and what was laid out otherwise in between
+pub all_given : (columns : List ColumnView) (hs ws : List Held) (fs gs ss : List BlockView) → columns_of hs fs ss ≡ columns → ws ≡ replicate (length hs) nothing → length fs ≡ length hs → length gs ≡ length hs → length ss ≡ length hs → columns_of ws gs ss ≡ replicate (length columns) empty_column
+all_given columns hs ws fs gs ss e k h g m =
+    ap (λ xs. columns_of xs gs ss) k
+    ∙ columns_emptied (length hs) gs ss (omega (arith, g)) (omega (arith, m))
+    ∙ ap (λ n. replicate n empty_column) (sym (columns_seen columns hs fs ss e (omega (arith, h)) (omega (arith, m))))
+
 pub one_dropped : (columns : List ColumnView) (hs ws : List Held) (fs ss : List BlockView) (i : ℕ) → columns_of hs fs ss ≡ columns → ws ≡ set hs i nothing → i < length hs → length fs ≡ length hs → length ss ≡ length hs → columns_of ws fs ss ≡ set columns i empty_column
 one_dropped columns hs ws fs ss i e k l h m =
     ap (λ xs. columns_of xs fs ss) k ∙ column_emptied hs fs ss i l (omega (arith, h)) (omega (arith, m)) ∙ ap (λ cs. set cs i empty_column) e

@@ -3,7 +3,7 @@ use Rattle.std.proofs.lemmas.Bool.{false≢true}
 use Rattle.std.proofs.Common.{◌≡◌, ℕ, Bool, true, false, List, [], ◌∷◌, Option, None, Some, ◌∙◌, ap, arith, length, refl, replicate, subst, suc, sym, zero}
 use Rattle.pdc_row.specs.CellView.{BlockView}
 use Rattle.pdc_row.specs.KeptBlocks.{blocks_in, shapes_of}
-use Rattle.pdc_open_row.specs.OpenRowParts.{column_of, columns_of}
+use Rattle.pdc_open_row.specs.OpenRowParts.{columns_of}
 use Rattle.pdc_open_row.specs.Twin.{IsTwin, firsts, twin_of, with_block}
 use Rattle.pdc_open_row.specs.Views.{ColumnView, empty_column, kept}
 use Rattle.pdc_open_row.specs.declared.column.Held.{Held}

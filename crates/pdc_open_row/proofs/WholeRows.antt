@@ -60,6 +60,12 @@ whole_count (x ∷ hs) [] ss h k = absurd (omega (arith, h))
 whole_count (x ∷ hs) (f ∷ fs) [] h k = absurd (omega (arith, k))
 whole_count (x ∷ hs) (f ∷ fs) (s ∷ ss) h k = ap suc (whole_count hs fs ss (omega (arith, h)) (omega (arith, k)))
 
+-- their shapes
+pub shape_at : (fs : List BlockView) (i : ℕ) (d : BlockView) → get_or (shapes_of fs) i d.shape ≡ (get_or fs i d).shape
+shape_at [] i d = refl
+shape_at (f ∷ fs) zero d = refl
+shape_at (f ∷ fs) (suc i) d = shape_at fs i d
+
 -- and which each gives
 pub whole_at : (hs : List Held) (fs ss : List BlockView) (i : ℕ) (d : BlockView) (shape : Shape) → i < length fs → length fs ≡ length hs → length ss ≡ length hs → get_or (blocks_of (map Some (shapes_of fs)) (columns_of hs fs ss)) i d ≡ block_in (get_or (shapes_of fs) i shape) (column_of (get_or hs i nothing) (get_or fs i d) (get_or ss i d))
 whole_at [] [] ss i d shape l h k = absurd (omega (arith, l))

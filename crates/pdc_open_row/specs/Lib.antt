@@ -11,3 +11,4 @@ pub mod Views
 pub use Rattle.pdc_row.specs as pdc_row
 pub use Rattle.pdc_row.specs.pdc_block
 pub use Rattle.pdc_row.specs.pdc_cfg
+pub use Rattle.pdc_memory.specs as pdc_memory

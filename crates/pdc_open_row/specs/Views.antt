@@ -1,5 +1,5 @@
 -- What an open instant holds, however a table keeps it.
-use Rattle.std.specs.Prelude.{ℕ, Bool, false, if◌then◌else◌, List, replicate, Option, None, Some}
+use Rattle.std.specs.Prelude.{ℕ, Bool, false, if◌then◌else◌, List, length, replicate, Option, None, Some}
 use Rattle.pdc_row.specs.CellView.{CellView}
 
 -- what the lanes of a column hold at an instant; with one lane the second holds nothing
@@ -38,3 +38,7 @@ at_age age row = record row { age = age }
 -- the row as one of no instant: an instant that is held is above 0
 abbrev pub without_instant : OpenRowView → OpenRowView
 without_instant row = record row { instant = 0 }
+
+-- the row once its blocks were handed out: its columns hold nothing
+abbrev pub spent : OpenRowView → OpenRowView
+spent row = record row { columns = replicate (length row.columns) empty_column }

@@ -1,9 +1,10 @@
 //! The columns of a row: which lanes of each hold a cell, and the blocks of each lane. What is done with whole frames and whole rows
 //! stands in `whole.rt`.
 ghost use Rattle.std.specs.Prelude.{◌≡◌, ℕ, ◌<◌, ◌≤◌, ◌∷◌, [], List, None, Option, Some, length};
-ghost use Rattle.std.specs.Prelude.{map};
+ghost use Rattle.std.specs.Prelude.{IfOk, OnErr, map};
 ghost use Rattle.std.specs.Prelude.{option_map, replicate, false, true, slice_index_or};
 ghost use Rattle.std.specs.Prelude.{slice_set};
+ghost use Rattle.pdc_memory.specs.Asking.{SomeWasRefused};
 ghost use Rattle.std.specs.List.{All};
 ghost use Rattle.pdc_row.specs.pdc_cfg.declared.shape.Shape.{Shape as ShapeData};
 ghost use Rattle.pdc_open_row.specs.Chosen.{chosen_of, disagreement_at, disagreements_of};
@@ -15,18 +16,22 @@ ghost use Rattle.pdc_open_row.specs.Views.{empty_column};
 use crate::MAX_COLUMNS;
 use crate::column::{Chosen, Held, NOTHING};
 use crate::lanes::Lanes;
-use pdc_row::{CopyFrom, Offered, RowBlocks, Shape};
+use crate::row_blocks::WORST_QUALITY;
+use pdc_memory::HeldBox;
+use pdc_row::{CopyFrom, DueRow, Offered, RowBlocks, Shape};
+use std::alloc::{AllocError, Global};
 use std::marker::Model;
+use std::mem::swap;
 
 /// The columns of a row.
 #[derive(Drop)]
 pub struct Columns {
     /// Which lanes of each column hold a cell: all that a row that begins writes, and all that most looks at it read.
     pub(crate) held: Lanes,
-    /// The blocks of lane 0, each at its column, where they are held: one after the other, as the frame that goes out has them.
-    pub(crate) first: RowBlocks,
+    /// The row that goes out: its blocks are those of lane 0, each at its column, where they are held. It is handed out as it is.
+    pub(crate) first: HeldBox<DueRow>,
     /// The blocks of lane 1, where they are held and do not stand in lane 0.
-    pub(crate) second: RowBlocks,
+    pub(crate) second: HeldBox<RowBlocks>,
 }
 
 impl Model for Columns {
@@ -36,11 +41,12 @@ impl Model for Columns {
 
     ghost Value = { List ColumnView };
 
-    ghost view = { λ columns. columns_of columns.held columns.first columns.second };
+    ghost view = { λ columns. columns_of columns.held columns.first.value.blocks
+        columns.second.value };
 
     ghost invariant = { λ columns. record {
-      first : length columns.first ≡ length columns.held;
-      second : length columns.second ≡ length columns.held;
+      first : length columns.first.value.blocks ≡ length columns.held;
+      second : length columns.second.value ≡ length columns.held;
     } };
 }
 
@@ -56,17 +62,36 @@ fn blank_blocks(count: usize) -> RowBlocks
     blocks
 }
 
+/// A row of so many blocks, to be written over.
+fn blank_row(count: usize) -> DueRow
+    requires { count ≤ MAX_COLUMNS }
+    ensures { length result.blocks ≡ count }
+{
+    DueRow {
+        instant: 0,
+        start: 0,
+        change: 0,
+        quality: WORST_QUALITY,
+        blocks: blank_blocks(count),
+    }
+}
+
 impl Columns {
     /// So many columns in which nothing was taken.
-    pub(crate) fn blank(count: usize) -> Columns
+    ///
+    /// # Errors
+    ///
+    /// [`AllocError`] where a request for the memory of a row was refused.
+    pub(crate) fn blank(alloc: Global, count: usize) -> Result<Columns, AllocError>
         requires { count ≤ MAX_COLUMNS }
-        ensures { result ≡ replicate count empty_column }
+        ensures columns { IfOk result (λ columns. columns ≡ replicate count empty_column) }
+        ensures refused { OnErr result SomeWasRefused }
     {
-        Columns {
+        Ok(Columns {
             held: Lanes::blank(count),
-            first: blank_blocks(count),
-            second: blank_blocks(count),
-        }
+            first: HeldBox::new(alloc, blank_row(count))?,
+            second: HeldBox::new(alloc, blank_blocks(count))?,
+        })
     }
 
     /// Lays these columns out as others, where they are as many and hold nothing yet: so that the blocks which come have their places.
@@ -79,8 +104,33 @@ impl Columns {
         if held.first || held.second || other.held.len() != self.held.len() {
             return;
         }
-        self.first.lay_out_as(&other.first);
-        self.second.lay_out_as(&other.second);
+        self.first
+            .get_mut()
+            .blocks
+            .lay_out_as(&other.first.get().blocks);
+        self.second.get_mut().lay_out_as(other.second.get());
+    }
+
+    /// Takes the memory of the other columns' blocks and gives them its own, where it is known that neither hold anything. Whether it did.
+    pub(crate) fn trade(&mut self, other: &mut Columns) -> bool
+        ensures own { self.new ≡ self.old }
+        ensures other { other.new ≡ other.old }
+    {
+        let Some(mine) = self.held.one() else {
+            return false;
+        };
+        let Some(its) = other.held.one() else {
+            return false;
+        };
+        if mine.first || mine.second || its.first || its.second {
+            return false;
+        }
+        if self.held.len() != other.held.len() {
+            return false;
+        }
+        swap(&mut self.first, &mut other.first);
+        swap(&mut self.second, &mut other.second);
+        true
     }
 
     /// Whether it is known of all columns at once that they hold nothing.
@@ -155,7 +205,7 @@ impl Columns {
     {
         let (column, block) = cell;
         if is_alone {
-            self.first.put(*column, block);
+            self.first.get_mut().blocks.put(*column, block);
             self.held.hold_first(*column, quality);
         } else {
             self.put_beside(lane, *column, block, quality);
@@ -172,8 +222,8 @@ impl Columns {
     {
         let mut held = self.held.at(column);
         held.put(
-            &mut self.first,
-            &mut self.second,
+            &mut self.first.get_mut().blocks,
+            self.second.get_mut(),
             column,
             lane,
             block,
@@ -222,7 +272,13 @@ impl Columns {
             (B.view block.now) }
     {
         let held = self.held.at(column);
-        held.holds_other(&self.first, &self.second, column, lane, block)
+        held.holds_other(
+            &self.first.get().blocks,
+            self.second.get(),
+            column,
+            lane,
+            block,
+        )
     }
 
     /// How many disagreements the column at this place gives, one or none; past the last column there is nothing.
@@ -233,7 +289,7 @@ impl Columns {
     {
         if place < self.held.len() {
             let held = self.held.at(place);
-            held.disagreements(&self.first, &self.second, place, shape)
+            held.disagreements(&self.first.get().blocks, self.second.get(), place, shape)
         } else {
             0
         }
@@ -259,7 +315,7 @@ impl Columns {
     {
         if place < self.held.len() {
             let held = self.held.at(place);
-            held.chosen(&self.first, &self.second, place)
+            held.chosen(&self.first.get().blocks, self.second.get(), place)
         } else {
             None
         }
@@ -270,7 +326,10 @@ impl CopyFrom for Columns {
     #[inline]
     fn copy_from(&mut self, other: &Columns) {
         self.held.copy_from(&other.held);
-        self.first.copy_from(&other.first);
-        self.second.copy_from(&other.second);
+        self.first
+            .get_mut()
+            .blocks
+            .copy_from(&other.first.get().blocks);
+        self.second.get_mut().copy_from(other.second.get());
     }
 }

@@ -29,6 +29,7 @@ pub use limits::{MAX_COLUMNS, MAX_LANES};
 pub use open_row::{OpenRow, Places};
 pub use outcome::PutOutcome;
 pub use parts::{Cut, Part};
+pub use pdc_memory::{Held, HeldBox, HeldQueue};
 pub use pdc_row::{
     Block, Body, CheckedFront, CopyFrom, DueRow, KnownFront, MAX_WINDOW, MIN_WINDOW, RowBlocks,
     Shape, Shapes, copy_block, copy_each, front_of, numbers_rise, words_are_cut,

@@ -1,9 +1,12 @@
 //! The row of an instant that is open.
-ghost use Rattle.std.specs.Prelude.{◌≡◌, ◌+◌, ◌<◌, ◌≤◌, ◌++◌, IfSome, drop, length, Some};
+ghost use Rattle.std.specs.Prelude.{◌≡◌, ◌+◌, ◌<◌, ◌≤◌, ◌++◌, IfOk, IfSome, OnErr, drop, length};
+ghost use Rattle.std.specs.Prelude.{Some};
+ghost use Rattle.pdc_memory.specs.Asking.{SomeWasRefused};
 ghost use Rattle.std.specs.Prelude.{if◌then◌else◌, replicate, true};
 ghost use Rattle.pdc_row.specs.Quality.{quality_of, worst_of};
 ghost use Rattle.pdc_row.specs.RowView.{row_view};
-ghost use Rattle.pdc_open_row.specs.Views.{at_age, blank_row, empty_column, without_instant};
+ghost use Rattle.pdc_open_row.specs.Views.{at_age, blank_row, empty_column, spent};
+ghost use Rattle.pdc_open_row.specs.Views.{without_instant};
 ghost use Rattle.pdc_open_row.specs.Row.{blocks_of, qualities_of, row_of};
 ghost use Rattle.pdc_open_row.specs.Due.{all_taken, is_due};
 ghost use Rattle.pdc_open_row.specs.Taking.{HaveColumns, answer_at, conflicts, is_taken};
@@ -19,7 +22,9 @@ use crate::row_blocks::{WORST_QUALITY, give, quality_below};
 use crate::streams::{all_taken, falses};
 use crate::{MAX_COLUMNS, PutOutcome, RowLayout, WaitRule, copy_items};
 use arrayvec::ArrayVec;
+use pdc_memory::HeldBox;
 use pdc_row::{CopyFrom, DueRow, RowBlocks, Shape};
+use std::alloc::{AllocError, Global};
 use std::marker::Model;
 
 /// For how many streams and columns a row has a place.
@@ -59,17 +64,22 @@ impl Model for OpenRow {
 
 impl OpenRow {
     /// The row of an instant in which nothing was taken.
-    pub fn blank(instant: u64, places: Places) -> OpenRow
+    ///
+    /// # Errors
+    ///
+    /// [`AllocError`] where a request for its memory was refused.
+    pub fn blank(alloc: Global, instant: u64, places: Places) -> Result<OpenRow, AllocError>
         requires streams { places.streams ≤ MAX_COLUMNS }
         requires columns { places.columns ≤ MAX_COLUMNS }
-        ensures { result ≡ blank_row places.streams places.columns instant }
+        ensures row { IfOk result (λ row. row ≡ blank_row places.streams places.columns instant) }
+        ensures refused { OnErr result SomeWasRefused }
     {
-        OpenRow {
+        Ok(OpenRow {
             instant,
             has_second: false,
             taken: falses(places.streams),
-            columns: Columns::blank(places.columns),
-        }
+            columns: Columns::blank(alloc, places.columns)?,
+        })
     }
 
     /// Makes this the row of an instant in which nothing was taken.
@@ -239,10 +249,7 @@ impl OpenRow {
         ensures { row_view result ≡ row_of (layout_view layout.now) self.now }
     {
         let mut blocks = RowBlocks::new();
-        let quality = match self.columns.give_whole(layout, &mut blocks) {
-            Some(above) => quality_below(above),
-            None => self.fill_each(layout.shapes.as_slice(), &mut blocks),
-        };
+        let quality = self.fill_each(layout.shapes.as_slice(), &mut blocks);
         DueRow {
             instant: self.instant,
             start: layout.start,
@@ -252,23 +259,47 @@ impl OpenRow {
         }
     }
 
-    /// Writes the row that it closes to over this one. It shows what it showed; where it is to be written block after block, columns that hold
-    /// nothing are laid out as the layout has them, for the next row at this place.
-    pub fn close_into(&mut self, layout: &RowLayout, row: &mut DueRow)
-        ensures row { row_view row.new ≡ row_of (layout_view layout.now) self.old }
-        ensures same { self.new ≡ self.old }
+    /// Hands out the row that it closes to: nearly always that in which its blocks were put, and the one that was lent stays in its place. Else it
+    /// is written block after block over the one that was lent, and columns that hold nothing are laid out as the layout has them. Then no
+    /// column holds anything.
+    pub fn hand_out(&mut self, layout: &RowLayout, row: &mut HeldBox<DueRow>)
+        ensures row { row_view row.new.value ≡ row_of (layout_view layout.now) self.old }
+        ensures spent { self.new ≡ spent self.old }
     {
+        let quality = match self.columns.hand_out(layout, row) {
+            Some(above) => quality_below(above),
+            None => self.copy_out(layout, &mut row.get_mut().blocks),
+        };
+        let row = row.get_mut();
         row.instant = self.instant;
         row.start = layout.start;
         row.change = layout.change;
-        row.quality = match self.columns.give_whole(layout, &mut row.blocks) {
-            Some(above) => quality_below(above),
-            None => {
-                let quality = self.fill_each(layout.shapes.as_slice(), &mut row.blocks);
-                self.columns.lay_out_in(layout);
-                quality
-            }
-        };
+        row.quality = quality;
+    }
+
+    /// Makes these the blocks of the row that it closes to, block after block, and empties the columns. It answers its quality.
+    #[inline(never)]
+    fn copy_out(&mut self, layout: &RowLayout, blocks: &mut RowBlocks) -> u8
+        ensures blocks { blocks.new ≡ blocks_of layout.now.shapes.items self.old.columns }
+        ensures quality { result ≡
+            quality_of (qualities_of layout.now.shapes.items self.old.columns) }
+        ensures fits { result ≤ WORST_QUALITY }
+        ensures few { length blocks.new ≤ MAX_COLUMNS }
+        ensures spent { self.new ≡ spent self.old }
+    {
+        let quality = self.fill_each(layout.shapes.as_slice(), blocks);
+        self.columns.lay_out_in(layout);
+        self.columns.forget_all();
+        quality
+    }
+
+    /// Takes the memory of the other row's blocks and gives it its own, where it is known that neither row holds anything: so the blocks that come
+    /// are put where those of another row were a moment ago. Whether it did. It shows nothing of it.
+    pub fn trade(&mut self, other: &mut OpenRow) -> bool
+        ensures own { self.new ≡ self.old }
+        ensures other { other.new ≡ other.old }
+    {
+        self.columns.trade(&mut other.columns)
     }
 
     /// Appends the block of the column at this place, if it has a shape. It answers the number above the worst quality so far.

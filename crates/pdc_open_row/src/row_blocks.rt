@@ -104,29 +104,20 @@ fn front_of_first(held: &Lanes, first: &RowBlocks) -> (usize, u32)
     (first.len(), above)
 }
 
-/// Writes what the columns give over blocks that are those of lane 0, whose shapes are wanted, and answers the number above the worst quality.
-pub fn give_over(held: &Lanes, first: &RowBlocks, second: &RowBlocks, blocks: &mut RowBlocks) -> u32
-    requires first { length first.now ≡ length held.now }
+/// Writes what the columns give over the blocks of lane 0, each in its shape, where lane 0 does not give it. It answers the number above the
+/// worst quality.
+pub fn give_over(held: &Lanes, blocks: &mut RowBlocks, second: &RowBlocks) -> u32
+    requires first { length blocks.old ≡ length held.now }
     requires second { length second.now ≡ length held.now }
-    requires same { blocks.old ≡ first.now }
-    ensures blocks { blocks.new ≡ blocks_of (map Some (shapes_of first.now))
-        (columns_of held.now first.now second.now) }
+    ensures blocks { blocks.new ≡ blocks_of (map Some (shapes_of blocks.old))
+        (columns_of held.now blocks.old second.now) }
     ensures quality { worst_of (worst_kept result) [] ≡ quality_of (qualities_of
-        (map Some (shapes_of first.now)) (columns_of held.now first.now second.now)) }
+        (map Some (shapes_of blocks.old)) (columns_of held.now blocks.old second.now)) }
     ensures fits { result ≤ WORST_QUALITY + 1 }
 {
-    let shapes = first.shapes();
-    let (front, mut above) = front_of_first(held, first);
-    for place in front..shapes.len() {
-        above = give_one_over(
-            held.at(place),
-            first,
-            second,
-            place,
-            shapes[place],
-            blocks,
-            above,
-        );
+    let (front, mut above) = front_of_first(held, blocks);
+    for place in front..blocks.len() {
+        above = give_one_over(held.at(place), blocks, second, place, above);
     }
     above
 }
@@ -135,41 +126,37 @@ pub fn give_over(held: &Lanes, first: &RowBlocks, second: &RowBlocks, blocks: &m
 #[inline(always)]
 fn give_one_over(
     held: Held,
-    first: &RowBlocks,
+    blocks: &mut RowBlocks,
     second: &RowBlocks,
     place: usize,
-    shape: Shape,
-    blocks: &mut RowBlocks,
     above: u32,
 ) -> u32
-    requires first { place < length first.now }
+    requires first { place < length blocks.old }
     requires second { place < length second.now }
-    requires there { place < length blocks.old }
-    requires same { (default : BlockView) → slice_index_or blocks.old place default ≡
-        slice_index_or first.now place default }
     requires above { above ≤ WORST_QUALITY + 1 }
     ensures blocks { (default : BlockView) → blocks.new ≡ slice_set blocks.old place
-        (block_in shape (column_of held (slice_index_or first.now place default)
+        (block_in (slice_index_or blocks.old place default).shape
+        (column_of held (slice_index_or blocks.old place default)
         (slice_index_or second.now place default))) }
     ensures quality { (default : BlockView) (ns : List ℕ) → worst_of (worst_kept result) ns ≡
         worst_of (worst_kept above) (option_to_list (option_map time_quality_of
-        (chosen_of (column_of held (slice_index_or first.now place default)
+        (chosen_of (column_of held (slice_index_or blocks.old place default)
         (slice_index_or second.now place default)))) ++ ns) }
     ensures fits { result ≤ WORST_QUALITY + 1 }
 {
-    if held.first && first.is_present(place) {
+    if held.first && blocks.is_present(place) {
         return worse(above, held.first_quality % 16);
     }
-    match held.chosen(first, second, place) {
-        Some(chosen) => {
-            blocks.put(place, &chosen.body);
-            worse(above, chosen.quality % 16)
-        }
-        None => {
-            blocks.put_absent(place, shape);
-            above
-        }
+    if held.second && held.alike && blocks.is_present(place) {
+        return worse(above, held.second_quality % 16);
     }
+    if held.second && !held.alike && second.is_present(place) {
+        blocks.put(place, &second.body(place));
+        return worse(above, held.second_quality % 16);
+    }
+    let shape = blocks.body(place).shape;
+    blocks.put_absent(place, shape);
+    above
 }
 
 /// The number above the worst quality so far, where this one is given too.

@@ -1,23 +1,27 @@
 //! Whole frames that are put into a row, and whole rows.
-ghost use Rattle.std.specs.Prelude.{◌≡◌, ◌<◌, ◌≤◌, ◌+◌, [], IfSome, List, Some, false, length, map};
-ghost use Rattle.std.specs.Prelude.{true};
+ghost use Rattle.std.specs.Prelude.{◌≡◌, ◌<◌, ◌≤◌, ◌+◌, [], IfNone, IfSome, List, Some, false};
+ghost use Rattle.std.specs.Prelude.{length, map, replicate, true};
 ghost use Rattle.pdc_row.specs.CellView.{BlockView};
 ghost use Rattle.pdc_row.specs.KeptBlocks.{blocks_in, shapes_of};
 ghost use Rattle.pdc_row.specs.Quality.{quality_of, worst_of};
 ghost use Rattle.pdc_row.specs.pdc_block.Block.{words_in};
-ghost use Rattle.pdc_open_row.specs.OpenRowParts.{columns_of, worst_kept};
-ghost use Rattle.pdc_open_row.specs.Parts.{cut_cells};
+ghost use Rattle.pdc_open_row.specs.OpenRowParts.{columns_of, nothing, worst_kept};
+ghost use Rattle.pdc_open_row.specs.Parts.{are_laid_out, cut_cells};
 ghost use Rattle.pdc_open_row.specs.Row.{blocks_of, qualities_of};
 ghost use Rattle.pdc_open_row.specs.Taking.{with_cells};
 ghost use Rattle.pdc_open_row.specs.Twin.{IsTwin, firsts, twin_of};
+ghost use Rattle.pdc_open_row.specs.Views.{empty_column};
 
+use crate::column::NOTHING;
 use crate::columns::Columns;
 use crate::laid::fits;
 use crate::lanes::Lanes;
 use crate::parts::{Cut, Part};
 use crate::row_blocks::{give_over, worst_of_one};
 use crate::{MAX_COLUMNS, RowLayout, WORST_QUALITY};
-use pdc_row::{CopyFrom, RowBlocks, Shape, words_are_cut};
+use pdc_memory::HeldBox;
+use pdc_row::{DueRow, RowBlocks, Shape, words_are_cut};
+use std::mem::swap;
 
 impl Columns {
     /// Puts the blocks of a whole frame, one for each column as they are laid out here, into this lane: by one copy, or by none where they are
@@ -46,24 +50,26 @@ impl Columns {
         let Some(mut held) = self.held.one() else {
             return false;
         };
-        if !fits(cut.parts, cut.laid, &self.first) {
+        let first = &mut self.first.get_mut().blocks;
+        if !fits(cut.parts, cut.laid, first) {
             return false;
         }
         held.first = true;
         held.first_quality = quality;
         if !held.second {
-            self.first.write_over(cut.bytes, cut.sent);
+            first.write_over(cut.bytes, cut.sent);
             self.held.fill(held);
             return true;
         }
-        if held.alike || !fits(cut.parts, cut.laid, &self.second) {
+        let second = self.second.get();
+        if held.alike || !fits(cut.parts, cut.laid, second) {
             return false;
         }
-        if !self.second.has_bytes(cut.bytes) {
+        if !second.has_bytes(cut.bytes) {
             return false;
         }
         held.alike = true;
-        self.first.write_over(cut.bytes, cut.sent);
+        first.write_over(cut.bytes, cut.sent);
         self.held.fill(held);
         true
     }
@@ -84,16 +90,17 @@ impl Columns {
         let is_twin = cut.is_twin & held.first;
         held.second = true;
         held.second_quality = quality;
-        if fits(cut.parts, cut.laid, &self.first) && are_of(cut.bytes, is_twin, &self.first) {
+        if are_those_of(cut, is_twin, &self.first.get().blocks) {
             held.alike = true;
             self.held.fill(held);
             return true;
         }
-        if !fits(cut.parts, cut.laid, &self.second) {
+        let second = self.second.get_mut();
+        if !fits(cut.parts, cut.laid, second) {
             return false;
         }
         held.alike = false;
-        self.second.write_over(cut.bytes, cut.sent);
+        second.write_over(cut.bytes, cut.sent);
         self.held.fill(held);
         true
     }
@@ -104,30 +111,31 @@ impl Columns {
         ensures { IfSome result (λ blocks. blocks.now ≡ firsts self.now) }
     {
         match self.held.one() {
-            Some(held) if held.first => Some(&self.first),
+            Some(held) if held.first => Some(&self.first.get().blocks),
             _ => None,
         }
     }
 
-    /// Makes these the blocks that the columns give, where all columns have shapes and lane 0 is laid out in them: by one copy, over which the
-    /// others are written. It answers the number above the worst quality.
-    #[inline(always)]
-    pub(crate) fn give_whole(&self, layout: &RowLayout, blocks: &mut RowBlocks) -> Option<u32>
-        ensures blocks { IfSome result (λ _. blocks.new ≡
-            blocks_of layout.now.shapes.items self.now) }
+    /// Hands out the row of the blocks that the columns give, where all columns have shapes and lane 0 is laid out in them: what lane 0 does not
+    /// give is written over its blocks, and no other is moved. The row that was lent stays here in its place, and the columns hold nothing.
+    /// It answers the number above the worst quality.
+    pub(crate) fn hand_out(&mut self, layout: &RowLayout, row: &mut HeldBox<DueRow>) -> Option<u32>
+        ensures blocks { IfSome result (λ _. row.new.value.blocks ≡
+            blocks_of layout.now.shapes.items self.old) }
         ensures quality { IfSome result (λ above. worst_of (worst_kept above) [] ≡
-            quality_of (qualities_of layout.now.shapes.items self.now)) }
+            quality_of (qualities_of layout.now.shapes.items self.old)) }
         ensures fits { IfSome result (λ above. above ≤ WORST_QUALITY + 1) }
-        ensures few { IfSome result (λ _. length blocks.new ≤ MAX_COLUMNS) }
+        ensures some { IfSome result (λ _. self.new ≡
+            replicate (length self.old) empty_column) }
+        ensures none { IfNone result ((self.new ≡ self.old) × (row.new ≡ row.old)) }
     {
-        if self.held.len() != layout.shapes.len() || !have_shapes(layout, &self.first) {
+        let first = &mut self.first.get_mut().blocks;
+        if self.held.len() != layout.shapes.len() || !have_shapes(layout, first) {
             return None;
         }
-        blocks.copy_from(&self.first);
-        Some(match self.held.one() {
-            Some(held) if held.gives_first() => worst_of_one(held, &self.first),
-            _ => give_over(&self.held, &self.first, &self.second, blocks),
-        })
+        let above = settle(&self.held, first, self.second.get());
+        exchange(&mut self.held, &mut self.first, row);
+        Some(above)
     }
 
     /// Lays the columns that hold nothing out in the shapes of the layout, where each column has one. So a row in which a PMU is absent
@@ -139,19 +147,62 @@ impl Columns {
         if let Some(shapes) = &layout.all {
             let shapes = shapes.as_slice();
             if shapes.len() == self.held.len() {
-                lay_out_empty(&self.held, &mut self.first, shapes);
+                lay_out_empty(&self.held, &mut self.first.get_mut().blocks, shapes);
             }
         }
     }
 }
 
-/// Whether bytes are those of blocks: where that is known, they are not compared.
+/// Whether the blocks of a frame are these, laid out as they are: where it is known that their bytes are the same, they are not compared.
 #[inline(always)]
-fn are_of(bytes: &[u8], is_known: bool, blocks: &RowBlocks) -> bool
-    requires { is_known ≡ true → blocks_in (shapes_of blocks.now) bytes.now ≡ blocks.now }
-    ensures { result ≡ true → blocks_in (shapes_of blocks.now) bytes.now ≡ blocks.now }
+fn are_those_of<P: Part>(cut: &Cut<'_, P>, is_known: bool, blocks: &RowBlocks) -> bool
+    requires { is_known ≡ true → blocks_in (shapes_of blocks.now) cut.now.bytes.now ≡ blocks.now }
+    ensures laid { result ≡ true → are_laid_out P.column_of P.shape_of cut.now.parts.now
+        (shapes_of blocks.now) 0 ≡ true }
+    ensures same { result ≡ true → blocks_in (shapes_of blocks.now) cut.now.bytes.now ≡ blocks.now }
 {
-    is_known || blocks.has_bytes(bytes)
+    fits(cut.parts, cut.laid, blocks) && (is_known || blocks.has_bytes(cut.bytes))
+}
+
+/// Makes the blocks of lane 0 those that the columns give, each in its shape. It answers the number above the worst quality.
+#[inline(always)]
+fn settle(held: &Lanes, first: &mut RowBlocks, second: &RowBlocks) -> u32
+    requires first { length first.old ≡ length held.now }
+    requires second { length second.now ≡ length held.now }
+    ensures blocks { first.new ≡ blocks_of (map Some (shapes_of first.old))
+        (columns_of held.now first.old second.now) }
+    ensures quality { worst_of (worst_kept result) [] ≡ quality_of (qualities_of
+        (map Some (shapes_of first.old)) (columns_of held.now first.old second.now)) }
+    ensures fits { result ≤ WORST_QUALITY + 1 }
+    ensures len { length first.new ≡ length first.old }
+{
+    match held.one() {
+        Some(one) if one.gives_first() => worst_of_one(one, first),
+        _ => give_over(held, first, second),
+    }
+}
+
+/// Hands out the row whose blocks are those of lane 0, and keeps the one that was lent in its place. The columns hold nothing then.
+#[inline(always)]
+fn exchange(held: &mut Lanes, first: &mut HeldBox<DueRow>, row: &mut HeldBox<DueRow>)
+    requires { length first.old.value.blocks ≡ length held.old }
+    ensures row { row.new ≡ first.old }
+    ensures first { length first.new.value.blocks ≡ length held.old }
+    ensures held { held.new ≡ replicate (length held.old) nothing }
+{
+    lay_out_as_many(&mut row.get_mut().blocks, &first.get().blocks);
+    swap(first, row);
+    held.fill(NOTHING);
+}
+
+/// Lays blocks out as others, unless they are as many.
+#[inline(always)]
+fn lay_out_as_many(blocks: &mut RowBlocks, others: &RowBlocks)
+    ensures { length blocks.new ≡ length others.now }
+{
+    if blocks.len() != others.len() {
+        blocks.lay_out_as(others);
+    }
 }
 
 /// Gives the columns that hold nothing absent blocks of these shapes.

@@ -15,7 +15,7 @@ use pdc_core::Ticked;
 use pdc_life::{MAX_PMUS, Outcome};
 use pdc_record::{Begun, Entry, What};
 use pdc_row::{Block, MAX_CUT};
-use pdc_table::{DueRow, spare_row};
+use pdc_table::{DueRow, HeldBox, spare_row};
 use std::alloc::{AllocError, Global};
 
 /// A core that lives a recorded life again.
@@ -28,7 +28,7 @@ pub struct Replayed<C: Begins> {
     /// How many datagrams were not kept whole.
     unkept: u64,
     /// The row that was popped last,
-    row: DueRow,
+    row: HeldBox<DueRow>,
     /// and its blocks.
     blocks: ArrayVec<Block, MAX_CUT>,
     /// The frame of a row or of a layout.
@@ -66,7 +66,7 @@ impl<C: Begins> Replayed<C> {
             core,
             frames: 0,
             unkept: 0,
-            row: spare_row(),
+            row: spare_row(alloc)?,
             blocks: ArrayVec::new(),
             wire: Vec::new(alloc),
             layouts: Vec::new(alloc),
@@ -91,14 +91,15 @@ impl<C: Begins> Replayed<C> {
 
     /// The row that was popped last, with the sections that it closed under.
     pub fn last_row(&self) -> SeenRow<'_> {
+        let row = self.row.get();
         let mut sections: &[Section] = &[];
         for layout in &self.layouts {
-            if layout.change == self.row.change {
+            if layout.change == row.change {
                 sections = layout.sections.as_slice();
             }
         }
         SeenRow {
-            instant: self.row.instant,
+            instant: row.instant,
             blocks: self.blocks.as_slice(),
             sections,
         }
@@ -179,8 +180,8 @@ impl<C: Begins> Replayed<C> {
         if let Err(what) = pop(&mut self.core, &mut self.row, Some(instant)) {
             return Err(Halt::Differs { step, what });
         }
-        self.blocks = self.row.blocks.to_blocks();
-        drop_layouts(&mut self.layouts, self.row.change);
+        self.blocks = self.row.get().blocks.to_blocks();
+        drop_layouts(&mut self.layouts, self.row.get().change);
         compare_popped(
             self.alloc,
             step,

@@ -18,7 +18,7 @@ use pdc_core::Ticked;
 use pdc_frame::{SECONDS, read_long};
 use pdc_life::{MAX_PMUS, Outcome, Refusal};
 use pdc_row::{Output, append_row};
-use pdc_table::DueRow;
+use pdc_table::{DueRow, HeldBox};
 use std::alloc::{AllocError, Global};
 
 /// The place of SOC in a frame, in bytes, and where it ends.
@@ -108,24 +108,25 @@ pub fn tick<C: Begins>(
     Ok(())
 }
 
-/// A row is popped over this one, or none.
+/// A row is popped in place of this one, or none.
 pub fn pop<C: Begins>(
     core: &mut C,
-    row: &mut DueRow,
+    row: &mut HeldBox<DueRow>,
     recorded: Option<u64>,
 ) -> Result<(), Difference>
     // It is the one of the instant that is recorded,
     ensures as_recorded { (g : Given) (E : List Entry) → C.stands_for core.old g E →
-        OnOk result (IsPop E recorded (row_view row.new)) }
+        OnOk result (IsPop E recorded (row_view row.new.value)) }
     // which can be tagged.
     ensures tagged { (g : Given) (E : List Entry) → C.stands_for core.old g E →
-        OnOk result (IfSome recorded (λ _. row.new.instant < SECONDS * g.output.rate)) }
+        OnOk result (IfSome recorded
+        (λ _. row.new.value.instant < SECONDS * g.output.rate)) }
     ensures stands { (g : Given) (E : List Entry) → C.stands_for core.old g E →
         C.stands_for core.new g (answered C.rules g E ToPop ∷ E) }
     ensures settings { C.settings_of core.new ≡ C.settings_of core.old }
 {
     let replayed = if core.pop_into(row) {
-        Some(row.instant)
+        Some(row.get().instant)
     } else {
         None
     };
@@ -168,16 +169,16 @@ pub fn compare_popped<C: Begins>(
     alloc: Global,
     step: u64,
     core: &C,
-    row: &DueRow,
+    row: &HeldBox<DueRow>,
     recorded: Option<&[u8]>,
     wire: &mut Vec<u8>,
 ) -> Result<(), Halt>
     ensures as_recorded { (g : Given) (E : List Entry) → C.stands_for core.now g E →
-        row.now.instant < SECONDS * g.output.rate →
-        OnOk result (IsFrameOf recorded.entry (wire_of g.output (row_view row.now))) }
+        row.now.value.instant < SECONDS * g.output.rate →
+        OnOk result (IsFrameOf recorded.entry (wire_of g.output (row_view row.now.value))) }
 {
     match recorded {
-        Some(frame) => compare_frame(alloc, step, &core.output(), row, frame, wire),
+        Some(frame) => compare_frame(alloc, step, &core.output(), row.get(), frame, wire),
         None => Ok(()),
     }
 }

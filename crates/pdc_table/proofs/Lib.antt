@@ -12,6 +12,7 @@ pub mod RingAges
 pub mod RingClosed
 pub mod RingCopied
 pub mod RingKept
+pub mod RingPopped
 pub mod RingPut
 pub mod RingRows
 pub mod RowAt

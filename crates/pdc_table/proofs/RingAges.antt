@@ -182,4 +182,4 @@ firsts_at window last s k i places ages is h a l r e =
 
 pub kept_by : (f : OpenRowView → OpenRowView) → ((row : OpenRowView) → (f row).instant ≡ row.instant) → (window last s k : ℕ) → ((row : OpenRowView) → HasPlaces s k row → HasPlaces s k (f row)) → (places now : List OpenRowView) (is seen : List ℕ) → 0 < window → seen ≡ is → now ≡ changed f window seen places → IsRing window last s k places is → IsRing window last s k now is
 kept_by f g window last s k q places now is seen h v e r =
-    subst (λ ps. IsRing window last s k ps is) (sym (e ∙ ap (λ js. changed f window js places) v)) (ring_changed f g window last s k q places is h r)
+    subst (λ ps. IsRing window last s k ps is) (sym (e ∙ ap (λ js. changed f window js places) v)) (ring_changed f g window last s k q places is is h r)

@@ -29,13 +29,13 @@ pub record IsRing (window last streams width : ℕ) (places : List OpenRowView) 
   pub known : All (IsKnown last is) places
   pub stand : StandAbove last window places
 
-pub ring_changed : (f : OpenRowView → OpenRowView) → ((row : OpenRowView) → (f row).instant ≡ row.instant) → (window last s k : ℕ) → ((row : OpenRowView) → HasPlaces s k row → HasPlaces s k (f row)) → (places : List OpenRowView) (is : List ℕ) → 0 < window → IsRing window last s k places is → IsRing window last s k (changed f window is places) is
-ring_changed f g window last s k q places is h r = record {
-  size = changed-length f window is places ∙ r.size;
-  each = changed-each (HasPlaces s k) f q window is places h r.size r.each;
-  placed = changed-placed f g window is places h r.size is r.placed;
-  known = changed-each (IsKnown last is) f (λ row n. subst (λ m. last < m → list_any (λ i. eqb i m) is ≡ true) (sym (g row)) n) window is places h r.size r.known;
-  stand = changed-stand f g last window is places h r.size r.stand;
+pub ring_changed : (f : OpenRowView → OpenRowView) → ((row : OpenRowView) → (f row).instant ≡ row.instant) → (window last s k : ℕ) → ((row : OpenRowView) → HasPlaces s k row → HasPlaces s k (f row)) → (places : List OpenRowView) (is js : List ℕ) → 0 < window → IsRing window last s k places is → IsRing window last s k (changed f window js places) is
+ring_changed f g window last s k q places is js h r = record {
+  size = changed-length f window js places ∙ r.size;
+  each = changed-each (HasPlaces s k) f q window js places h r.size r.each;
+  placed = changed-placed f g window js places h r.size is r.placed;
+  known = changed-each (IsKnown last is) f (λ row n. subst (λ m. last < m → list_any (λ i. eqb i m) is ≡ true) (sym (g row)) n) window js places h r.size r.known;
+  stand = changed-stand f g last window js places h r.size r.stand;
 }
 
 any_behind : (n m : ℕ) (is : List ℕ) → AreBelow m (take n is) → list_any (λ i. eqb i m) is ≡ true → list_any (λ i. eqb i m) (drop n is) ≡ true
@@ -120,7 +120,7 @@ pub record IsPutInto (window last s k i stream lane : ℕ) (cells : List (ℕ ×
 pub changed_kept : (f : OpenRowView → OpenRowView) → ((row : OpenRowView) → (f row).instant ≡ row.instant) → (c : Content) → ((row : OpenRowView) → HasPlaces (streams_of c) c.columns row → HasPlaces (streams_of c) c.columns (f row)) → (places now : List OpenRowView) (is seen : List ℕ) → seen ≡ is → now ≡ changed f c.window seen places → IsContent (record c { open_rows = rows_in places c.window is }) → IsRing c.window c.last (streams_of c) c.columns places is → IsRing c.window c.last (streams_of c) c.columns now is
 changed_kept f g c q places now is seen s e h r =
     subst (λ ps. IsRing c.window c.last (streams_of c) c.columns ps is) (sym (e ∙ ap (λ js. changed f c.window js places) s))
-    (ring_changed f g c.window c.last (streams_of c) c.columns q places is (omega (arith, h.window_least)) r)
+    (ring_changed f g c.window c.last (streams_of c) c.columns q places is is (omega (arith, h.window_least)) r)
 
 -- ---- what follows from the laws of rising numbers
 

@@ -1,11 +1,11 @@
 //! The ages of the rows of a ring.
 ghost use Rattle.std.specs.Prelude.{◌≡◌, ◌<◌, length, map, replicate, slice_index_or, slice_set};
 ghost use Rattle.std.specs.Prelude.{IfOk, OnErr};
-ghost use Rattle.pdc_memory.specs.Asking.{SomeWasRefused};
+ghost use Rattle.pdc_open_row.specs.pdc_memory.Asking.{SomeWasRefused};
 ghost use Rattle.pdc_table.specs.AgesView.{earlier};
 ghost use Rattle.pdc_table.specs.RingRows.{older};
 
-use pdc_memory::Held;
+use pdc_open_row::Held;
 use std::alloc::{AllocError, Global};
 use std::marker::Model;
 

@@ -3,8 +3,7 @@ ghost use Rattle.std.specs.Prelude.{◌≡◌, length};
 ghost use Rattle.pdc_table.specs.RingRows.{copied};
 
 use crate::circle::Circle;
-use pdc_memory::HeldQueue;
-use pdc_open_row::CopyFrom;
+use pdc_open_row::{CopyFrom, HeldQueue};
 
 /// Makes what stands at the places of these instants copies of what others have there.
 pub fn copy_at<T: CopyFrom>(mine: &mut [T], others: &[T], circle: &Circle, instants: &[u64])

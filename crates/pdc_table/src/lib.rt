@@ -25,16 +25,16 @@ mod table_trait;
 
 pub use bodies::{Room, cut_bodies, new_room};
 use closing_layout::ClosingLayout;
-pub use front::{is_near, remove_front};
+pub use front::is_near;
 pub use laid::laid_out;
 pub use laws::{
     ages_are_ticks, blocks_stand_in_their_columns, cells_are_first_puts, instants_open_where_taken,
     rows_close_where_due, rows_come_out_rising,
 };
 pub use pdc_open_row::{
-    Blocks, CheckedFront, CopyFrom, Cut, DueRow, KnownFront, Listed, MAX_COLUMNS, MAX_LANES,
-    MAX_WINDOW, MIN_WINDOW, OpenRow, Part, Places, PutOutcome, RowBlocks, RowLayout, Shapes,
-    WaitRule, copy_block, copy_each, copy_items, falses, front_of,
+    Blocks, CheckedFront, CopyFrom, Cut, DueRow, HeldBox, KnownFront, Listed, MAX_COLUMNS,
+    MAX_LANES, MAX_WINDOW, MIN_WINDOW, OpenRow, Part, Places, PutOutcome, RowBlocks, RowLayout,
+    Shapes, WaitRule, copy_block, copy_each, copy_items, falses, front_of,
 };
 pub use ring_table::RingTable;
 pub use spare::spare_row;

@@ -16,8 +16,7 @@ use crate::circle::Circle;
 use crate::front::is_near;
 use crate::rows::Rows;
 use crate::{RowLayout, WaitRule};
-use pdc_memory::{Held, HeldQueue};
-use pdc_open_row::{OpenRow, numbers_rise};
+use pdc_open_row::{Held, HeldQueue, OpenRow, numbers_rise};
 
 /// Whether each held instant is less than the window away.
 fn are_near(instants: &[u64], closed: &HeldQueue<u64>, window: u64, instant: u64) -> bool

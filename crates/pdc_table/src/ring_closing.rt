@@ -1,7 +1,7 @@
 //! How the rows of a ring close, and come out: a closed row stays at its place until it is popped.
 ghost use Rattle.std.specs.Prelude.{◌≡◌, ◌+◌, ◌≤◌, ◌++◌, [], drop, false, length, option_map};
 ghost use Rattle.std.specs.Prelude.{replicate, IfOk, take, vec_len, OnErr};
-ghost use Rattle.pdc_memory.specs.Asking.{SomeWasRefused};
+ghost use Rattle.pdc_open_row.specs.pdc_memory.Asking.{SomeWasRefused};
 ghost use Rattle.std.specs.List.{AllByRecursion, slice_get};
 ghost use Rattle.std.specs.Vec.{vec_capacity};
 ghost use Rattle.pdc_open_row.specs.pdc_row.Quality.{greatest};
@@ -10,9 +10,10 @@ ghost use Rattle.pdc_open_row.specs.pdc_row.RowView.{row_view};
 ghost use Rattle.pdc_table.specs.Closing.{closing, counter, staying};
 ghost use Rattle.pdc_table.specs.KeptRow.{popped_into};
 ghost use Rattle.pdc_open_row.specs.Layout.{layout_view};
+ghost use Rattle.pdc_open_row.specs.Views.{spent};
 ghost use Rattle.pdc_table.specs.OpenInstants.{instants_of};
-ghost use Rattle.pdc_table.specs.RingRows.{closed_rows, copied, laid, no_layout, row_in, rows_in};
-ghost use Rattle.pdc_table.specs.RingRows.{with_ages};
+ghost use Rattle.pdc_table.specs.RingRows.{changed, closed_rows, copied, laid, no_layout, row_in};
+ghost use Rattle.pdc_table.specs.RingRows.{rows_in, with_ages};
 ghost use Rattle.pdc_table.specs.Steps.{disagreements_in};
 
 use crate::circle::Circle;
@@ -20,8 +21,7 @@ use crate::copied::copy_at_queued;
 use crate::ring::{count_disagreements, count_due};
 use crate::rows::Rows;
 use crate::{ClosingLayout, RowLayout, WaitRule};
-use pdc_memory::{Held, HeldQueue};
-use pdc_open_row::{DueRow, OpenRow};
+use pdc_open_row::{DueRow, Held, HeldBox, HeldQueue, OpenRow};
 use std::alloc::{AllocError, Global};
 
 /// What is closed of a ring and was not popped, and what every closing adds to.
@@ -222,13 +222,15 @@ pub fn pop(
     Some(rows.places.item(place).close(layouts[place].layout()))
 }
 
-/// Takes the lowest closed instant out, and writes its row over this one. Whether there was one.
+/// Takes the lowest closed instant out, and hands out its row: the one that was lent stays at its place, which is the spare one then. Whether
+/// there was one.
 pub fn pop_into(
     places: &mut Held<OpenRow>,
+    spare: &mut usize,
     layouts: &[ClosingLayout],
     circle: &Circle,
     closed: &mut HeldQueue<u64>,
-    row: &mut DueRow,
+    row: &mut HeldBox<DueRow>,
 ) -> bool
     requires size { length places.old.items ≡ circle.now.window }
     requires layouts_size { length layouts.now ≡ circle.now.window }
@@ -236,7 +238,8 @@ pub fn pop_into(
         ≡ slice_get (closed_rows places.old.items layouts.now circle.now.window
         closed.old.items) 0 }
     ensures none { result ≡ false → row.new ≡ row.old }
-    ensures places { places.new.items ≡ places.old.items }
+    ensures places { places.new.items ≡
+        changed spent circle.now.window (take 1 closed.old.items) places.old.items }
     ensures places_capacity { places.new.capacity ≡ places.old.capacity }
     ensures rest { closed.new.items ≡ drop 1 closed.old.items }
     ensures capacity { closed.new.capacity ≡ closed.old.capacity }
@@ -247,6 +250,7 @@ pub fn pop_into(
     let place = circle.place_of(instant);
     places
         .item_mut(place)
-        .close_into(layouts[place].layout(), row);
+        .hand_out(layouts[place].layout(), row);
+    *spare = place;
     true
 }

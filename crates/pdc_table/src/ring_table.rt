@@ -13,7 +13,7 @@ use crate::{
 };
 use arrayvec::ArrayVec;
 use pdc_open_row::{
-    Block, Blocks, Body, Cut, DueRow, Listed, Part, Places, RowBlocks, copy_items, falses,
+    Block, Blocks, Body, Cut, DueRow, HeldBox, Listed, Part, Places, RowBlocks, copy_items, falses,
     numbers_rise,
 };
 use std::alloc::{AllocError, Global};
@@ -222,7 +222,7 @@ impl Table for RingTable {
         )
     }
 
-    fn pop_into(&mut self, row: &mut DueRow) -> bool {
+    fn pop_into(&mut self, row: &mut HeldBox<DueRow>) -> bool {
         numbers_rise();
         let RingTable {
             circle,
@@ -232,6 +232,7 @@ impl Table for RingTable {
         } = self;
         ring_closing::pop_into(
             &mut rows.places,
+            &mut rows.spare,
             closed.layouts.as_slice(),
             circle,
             &mut closed.instants,

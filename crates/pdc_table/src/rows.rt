@@ -7,7 +7,7 @@
 ghost use Rattle.std.specs.Prelude.{◌≡◌, ◌%◌, ◌==◌, ◌<◌, ◌≤◌, [], length, nat_lt};
 ghost use Rattle.std.specs.Prelude.{replicate, IfOk, slice_set, if◌then◌else◌};
 ghost use Rattle.std.specs.Prelude.{OnErr};
-ghost use Rattle.pdc_memory.specs.Asking.{SomeWasRefused};
+ghost use Rattle.pdc_open_row.specs.pdc_memory.Asking.{SomeWasRefused};
 ghost use Rattle.std.specs.List.{All, AllByRecursion, prefix_len};
 ghost use Rattle.pdc_open_row.specs.pdc_row.Rising.{Rises, place};
 ghost use Rattle.pdc_table.specs.RingRows.{base_row, copied, met_row, row_in};
@@ -19,8 +19,7 @@ use crate::ages::Ages;
 use crate::circle::Circle;
 use crate::copied::{copy_at, copy_at_queued};
 use crate::{MAX_COLUMNS, PutOutcome};
-use pdc_memory::{Held, HeldQueue};
-use pdc_open_row::{Blocks, OpenRow, Places, numbers_rise};
+use pdc_open_row::{Blocks, Held, HeldQueue, OpenRow, Places, numbers_rise};
 use std::alloc::{AllocError, Global};
 
 /// The rows of a ring, and which are open.
@@ -32,6 +31,8 @@ pub struct Rows {
     pub ages: Ages,
     /// The open instants, in rising order.
     pub open: Held<u64>,
+    /// At which place stands the memory that was given for the row which was handed out last, until the next row that begins takes it.
+    pub spare: usize,
 }
 
 /// So many places, in each of which stands a row of no instant.
@@ -44,7 +45,7 @@ fn new_places(alloc: Global, count: usize, sizes: Places) -> Result<Held<OpenRow
 {
     let mut places = Held::with_capacity(alloc, count)?;
     for _ in 0..count {
-        places.push(OpenRow::blank(0, sizes));
+        places.push(OpenRow::blank(alloc, 0, sizes)?);
     }
     Ok(places)
 }
@@ -84,20 +85,52 @@ fn copy_open(instants: &mut Held<u64>, others: &[u64])
     }
 }
 
-/// Lays a row in which nothing was taken yet out as the one before it, so that the blocks which come have their places.
+/// Makes a row in which nothing was taken yet ready for the blocks that come.
 #[inline(always)]
-fn lay_out_new(places: &mut Held<OpenRow>, place: usize)
+fn make_ready(places: &mut Held<OpenRow>, place: usize, spare: &mut usize)
     requires { place < length places.old.items }
     ensures items { places.new.items ≡ places.old.items }
     ensures capacity { places.new.capacity ≡ places.old.capacity }
 {
     if places.item(place).is_new() {
-        lay_out_at(places.as_mut_slice(), place);
+        ready_at(places.as_mut_slice(), place, *spare);
+        *spare = place;
     }
 }
 
-/// The same in a list of rows. A call of its own, since it is seldom.
+/// The same in a list of rows: the row gets the memory of the one that was handed out last, which is laid out as that was, and in which the
+/// processor still has what it read. Where that is not to be had, it is laid out as the row before it. A call of its own, since it is seldom.
 #[inline(never)]
+fn ready_at(rows: &mut [OpenRow], place: usize, spare: usize)
+    requires { place < length rows.old }
+    ensures { rows.new ≡ rows.old }
+{
+    if !trade_at(rows, place, spare) {
+        lay_out_at(rows, place);
+    }
+}
+
+/// Trades the memory of the row at a place for that of the spare one. Whether it has that now.
+fn trade_at(rows: &mut [OpenRow], place: usize, spare: usize) -> bool
+    requires { place < length rows.old }
+    ensures { rows.new ≡ rows.old }
+{
+    if place == spare {
+        return true;
+    }
+    if spare >= rows.len() {
+        return false;
+    }
+    if spare < place {
+        let (front, back) = rows.split_at_mut(place);
+        back[0].trade(&mut front[spare])
+    } else {
+        let (front, back) = rows.split_at_mut(spare);
+        front[place].trade(&mut back[0])
+    }
+}
+
+/// Lays the row at a place out as the one before it.
 fn lay_out_at(rows: &mut [OpenRow], place: usize)
     requires { place < length rows.old }
     ensures { rows.new ≡ rows.old }
@@ -124,6 +157,7 @@ impl Rows {
             places: new_places(alloc, count, sizes)?,
             ages: Ages::new(alloc, count)?,
             open: Held::with_capacity(alloc, count)?,
+            spare: 0,
         })
     }
 
@@ -200,7 +234,7 @@ impl Rows {
         ensures capacity { self.new.places.capacity ≡ self.old.places.capacity }
         ensures open_capacity { self.new.open.capacity ≡ self.old.open.capacity }
     {
-        lay_out_new(&mut self.places, here.place);
+        make_ready(&mut self.places, here.place, &mut self.spare);
         let row = self.places.item_mut(here.place);
         if row.instant() != here.instant {
             row.begin(here.instant);

@@ -1,18 +1,26 @@
 //! A row to pop into.
-ghost use Rattle.std.specs.Prelude.{◌≡◌, []};
+ghost use Rattle.std.specs.Prelude.{◌≡◌, [], IfOk, OnErr};
+ghost use Rattle.pdc_open_row.specs.pdc_memory.Asking.{SomeWasRefused};
 
-use pdc_open_row::{DueRow, RowBlocks, WORST_QUALITY};
+use pdc_open_row::{DueRow, HeldBox, RowBlocks, WORST_QUALITY};
+use std::alloc::{AllocError, Global};
 
-/// A row to be written over by [`Table::pop_into`](crate::Table::pop_into): of instant 0, without blocks.
-pub fn spare_row() -> DueRow
-    ensures instant { result.instant ≡ 0 }
-    ensures blocks { result.blocks ≡ [] }
+/// A row for [`Table::pop_into`](crate::Table::pop_into): of instant 0, without blocks.
+///
+/// # Errors
+///
+/// [`AllocError`] where a request for the memory of a row was refused.
+pub fn spare_row(alloc: Global) -> Result<HeldBox<DueRow>, AllocError>
+    ensures instant { IfOk result (λ row. row.value.instant ≡ 0) }
+    ensures blocks { IfOk result (λ row. row.value.blocks ≡ []) }
+    ensures refused { OnErr result SomeWasRefused }
 {
-    DueRow {
+    let row = DueRow {
         instant: 0,
         start: 0,
         change: 0,
         quality: WORST_QUALITY,
         blocks: RowBlocks::new(),
-    }
+    };
+    Ok(HeldBox::new(alloc, row)?)
 }

@@ -1,7 +1,7 @@
 //! What every table promises, however it is kept.
 ghost use Rattle.std.specs.Prelude.{◌≡◌, ℕ, ◌<◌, ◌≤◌, false, List, length, map, IfOk, option_map};
 ghost use Rattle.std.specs.Prelude.{IfSome, OnErr, Some};
-ghost use Rattle.pdc_memory.specs.Asking.{SomeWasRefused};
+ghost use Rattle.pdc_open_row.specs.pdc_memory.Asking.{SomeWasRefused};
 ghost use Rattle.std.specs.List.{AllByRecursion};
 ghost use Rattle.pdc_open_row.specs.pdc_row.RowView.{RowView, row_view};
 ghost use Rattle.pdc_open_row.specs.pdc_block.Block.{words_in};
@@ -23,7 +23,7 @@ use crate::{
     MAX_COLUMNS, MAX_LANES, MAX_WINDOW, MIN_WINDOW, PutOutcome, RowLayout, WaitRule, cut_bodies,
     new_room,
 };
-use pdc_open_row::{Block, Body, Cut, DueRow, Part, RowBlocks};
+use pdc_open_row::{Block, Body, Cut, DueRow, HeldBox, Part, RowBlocks};
 use std::alloc::{AllocError, Global};
 
 /// A table that aligns the streams of a concentrator by instant.
@@ -200,9 +200,9 @@ pub trait Table: Drop {
         ensures memory { memory self.new ≡ memory self.old }
         ensures well_formed { IsContent (content self.new) };
 
-    /// Takes the lowest closed row that was not popped, and writes it over this one: of the row only what has come is written. Whether
-    /// there was one; else the row stays.
-    fn pop_into(&mut self, row: &mut DueRow) -> bool
+    /// Takes the lowest closed row that was not popped, and hands it out in place of this one, whose memory it may keep for a row that comes: so
+    /// nearly always no block is copied. Whether there was one; else the row stays.
+    fn pop_into(&mut self, row: &mut HeldBox<DueRow>) -> bool
         ensures answer { popped_into result row.new ≡ pop_answer (content self.old) }
         ensures none { result ≡ false → row.new ≡ row.old }
         ensures content { content self.new ≡ after_pop (content self.old) }
@@ -213,7 +213,7 @@ pub trait Table: Drop {
     {
         match self.pop_due() {
             Some(due) => {
-                *row = due;
+                *row.get_mut() = due;
                 true
             }
             None => false,

@@ -18,7 +18,7 @@ ghost use Rattle.std.specs.Prelude.{◌≡◌, ◌<◌, IsTrue};
 use crate::blocks::{ONE_PHASOR, name_of, named};
 use arrayvec::ArrayVec;
 use pdc_row::DueRow;
-use pdc_table::{PutOutcome, RowLayout, Table, WaitRule, spare_row};
+use pdc_table::{HeldBox, PutOutcome, RowLayout, Table, WaitRule, spare_row};
 use std::alloc::{AllocError, Global};
 use std::fmt::Write;
 use try_script::{Player, numbers};
@@ -30,7 +30,7 @@ pub struct TablePlayer<T: Table> {
     columns: usize,
     lanes: usize,
     /// The row that is popped into, every other time.
-    row: DueRow,
+    row: HeldBox<DueRow>,
     is_in_place: bool,
     ghost columns_kept: { (T.content table).columns ≡ columns },
     ghost lanes_kept: { (T.content table).lanes ≡ lanes },
@@ -47,7 +47,7 @@ impl<T: Table> TablePlayer<T> {
             table: T::new(alloc, 8, 1, 1, 0)?,
             columns: 1,
             lanes: 1,
-            row: spare_row(),
+            row: spare_row(alloc)?,
             is_in_place: false,
         })
     }
@@ -63,7 +63,7 @@ impl<T: Table> TablePlayer<T> {
             table: T::new(alloc, window, columns, lanes, floor)?,
             columns,
             lanes,
-            row: spare_row(),
+            row: spare_row(alloc)?,
             is_in_place: false,
         };
         Ok(true)
@@ -78,7 +78,7 @@ impl<T: Table> TablePlayer<T> {
             };
         }
         if self.table.pop_into(&mut self.row) {
-            row_text(alloc, &self.row)
+            row_text(alloc, self.row.get())
         } else {
             "none".to_string(alloc)
         }

@@ -163,7 +163,7 @@ fn pop<C: Core + Drop, N: Naming<C::Settings>, R: Wait + Clock>(
         ticker.note(step, &Did::FoundNone);
         return Some(());
     }
-    let row = &pops.row;
+    let row = pops.row.get();
     let mut frame = Vec::new(alloc);
     if row.instant >= SECONDS * u64::from(lived.output.rate) {
         return None;

@@ -107,7 +107,7 @@ pub fn pop<C: Core + Drop, N: Naming<C::Settings>, R: Wait>(
 {
     let Numbered { step, answer } = hub.pop(rt, &mut mine.pops);
     let is_alike = match &mine.bare.pop_due() {
-        Some(bare_row) => answer && are_same(&mine.pops.row, bare_row),
+        Some(bare_row) => answer && are_same(mine.pops.row.get(), bare_row),
         None => !answer,
     };
     if answer {

@@ -1,2 +1,3 @@
 mod Cells
+mod Free
 mod Places

@@ -1,6 +1,7 @@
 //! An open row and its age.
-ghost use Rattle.std.specs.Prelude.{◌≡◌, ℕ, ◌<◌, ◌≤◌, length, Some, if◌then◌else◌};
+ghost use Rattle.std.specs.Prelude.{◌≡◌, ℕ, ◌<◌, ◌≤◌, length, IfOk, OnErr, Some, if◌then◌else◌};
 ghost use Rattle.std.specs.List.{All};
+ghost use Rattle.pdc_memory.specs.Asking.{SomeWasRefused};
 ghost use Rattle.pdc_row.specs.RowView.{row_view};
 ghost use Rattle.pdc_table.specs.Closing.{aged};
 ghost use Rattle.pdc_table.specs.pdc_open_row.Due.{all_taken, is_due};
@@ -12,6 +13,7 @@ ghost use Rattle.pdc_table.specs.pdc_open_row.Views.{blank_row};
 
 use pdc_row::{CopyFrom, DueRow, Offered};
 use pdc_table::{Listed, MAX_COLUMNS, OpenRow, Places, PutOutcome, RowLayout, WaitRule};
+use std::alloc::{AllocError, Global};
 use std::marker::Model;
 
 /// The row of an instant that is open, and the ticks since its first take.
@@ -31,15 +33,28 @@ impl Model for AgedRow {
 
 impl AgedRow {
     /// The row of an instant in which nothing was taken.
-    pub fn blank(instant: u64, places: Places) -> AgedRow
+    ///
+    /// # Errors
+    ///
+    /// [`AllocError`] where a request for its memory was refused.
+    pub fn blank(alloc: Global, instant: u64, places: Places) -> Result<AgedRow, AllocError>
         requires streams { places.streams ≤ MAX_COLUMNS }
         requires columns { places.columns ≤ MAX_COLUMNS }
-        ensures { result ≡ blank_row places.streams places.columns instant }
+        ensures row { IfOk result (λ row. row ≡ blank_row places.streams places.columns instant) }
+        ensures refused { OnErr result SomeWasRefused }
     {
-        AgedRow {
-            row: OpenRow::blank(instant, places),
+        Ok(AgedRow {
+            row: OpenRow::blank(alloc, instant, places)?,
             age: 0,
-        }
+        })
+    }
+
+    /// Makes this the row of an instant in which nothing was taken.
+    pub fn begin(&mut self, instant: u64)
+        ensures { self.new ≡ blank_row (length self.old.taken) (length self.old.columns) instant }
+    {
+        self.row.begin(instant);
+        self.age = 0;
     }
 
     /// The instant.

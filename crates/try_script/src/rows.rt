@@ -1,8 +1,10 @@
 //! Open rows in rising order.
-ghost use Rattle.std.specs.Prelude.{◌≡◌, ℕ, ◌+◌, ◌<◌, ◌≤◌, ◌++◌, length, map, vec_len, None, if◌then◌else◌};
+ghost use Rattle.std.specs.Prelude.{◌≡◌, ℕ, ◌+◌, ◌<◌, ◌≤◌, ◌++◌, drop, length, map, replicate, take, vec_len};
+ghost use Rattle.std.specs.Prelude.{IfOk, None, OnErr, if◌then◌else◌};
 ghost use Rattle.std.specs.Vec.{vec_capacity};
 ghost use Rattle.std.specs.List.{All, AllByRecursion, list_all, prefix_len, slice_get};
 ghost use Rattle.std.specs.Result.{MatchResult};
+ghost use Rattle.pdc_memory.specs.Asking.{SomeWasRefused};
 ghost use Rattle.pdc_table.specs.Closing.{aged, closing, counter, staying};
 ghost use Rattle.pdc_table.specs.pdc_open_row.Due.{is_due};
 ghost use Rattle.pdc_row.specs.RowView.{row_instants, row_view};
@@ -20,7 +22,8 @@ ghost use Rattle.pdc_table.specs.pdc_open_row.Views.{OpenRowView, blank_row};
 use crate::aged_row::AgedRow;
 use pdc_memory::HeldQueue;
 use pdc_row::{CopyFrom, DueRow, Offered, numbers_rise};
-use pdc_table::{MAX_COLUMNS, Places, PutOutcome, RowLayout, WaitRule, is_near, remove_front};
+use pdc_table::{MAX_COLUMNS, Places, PutOutcome, RowLayout, WaitRule, is_near};
+use std::alloc::{AllocError, Global};
 
 /// A frame that is offered to the rows, without its cells.
 #[derive(Clone, Copy, Debug)]
@@ -42,6 +45,25 @@ pub struct DueRule<'r> {
     pub required: &'r [bool],
     /// How long a row waits.
     pub wait: WaitRule,
+}
+
+/// So many rows of no instant, each to be begun once it is wanted.
+pub fn free_rows(
+    alloc: Global,
+    count: usize,
+    places: Places,
+) -> Result<HeldQueue<AgedRow>, AllocError>
+    requires streams { places.streams ≤ MAX_COLUMNS }
+    requires columns { places.columns ≤ MAX_COLUMNS }
+    ensures items { IfOk result (λ free. free.items ≡ replicate count (blank_row places.streams places.columns 0)) }
+    ensures capacity { IfOk result (λ free. free.capacity ≡ count) }
+    ensures refused { OnErr result SomeWasRefused }
+{
+    let mut free = HeldQueue::with_capacity(alloc, count)?;
+    for _ in 0..count {
+        free.push_back(AgedRow::blank(alloc, 0, places)?);
+    }
+    Ok(free)
 }
 
 /// How many rows stand below the instant.
@@ -146,16 +168,32 @@ pub fn greatest(rows: &[AgedRow], last: u64) -> u64
     greatest
 }
 
-/// Takes a frame of a stream for an instant, unless the stream was taken there.
+/// Begins the row of an instant: it is one of those that are free.
+fn begin(free: &mut HeldQueue<AgedRow>, places: Places, instant: u64) -> AgedRow
+    requires some { 0 < length free.old.items }
+    requires each { AllByRecursion (HasPlaces places.streams places.columns) free.old.items }
+    ensures row { result ≡ blank_row places.streams places.columns instant }
+    ensures free { free.new.items ≡ drop 1 free.old.items }
+    ensures capacity { free.new.capacity ≡ free.old.capacity }
+{
+    let mut row = free.pop_front().unwrap();
+    row.begin(instant);
+    row
+}
+
+/// Takes a frame of a stream for an instant, unless the stream was taken there. A row that opens is one of those that are free.
 pub fn take<B: Offered>(
     rows: &mut Vec<AgedRow>,
+    free: &mut HeldQueue<AgedRow>,
     places: Places,
     head: FrameHead,
     cells: &[(usize, B)],
 ) -> PutOutcome
     requires rising { Rises 0 (instants_of rows.old.items) }
     requires each { AllByRecursion (HasPlaces places.streams places.columns) rows.old.items }
+    requires free_each { AllByRecursion (HasPlaces places.streams places.columns) free.old.items }
     requires room { row_at head.instant rows.old.items ≡ None → vec_len rows.old < vec_capacity rows.old }
+    requires free_one { row_at head.instant rows.old.items ≡ None → 0 < length free.old.items }
     requires streams_fit { places.streams ≤ MAX_COLUMNS }
     requires columns_fit { places.columns ≤ MAX_COLUMNS }
     requires stream { head.stream < places.streams }
@@ -164,12 +202,15 @@ pub fn take<B: Offered>(
     ensures items { rows.new.items ≡ (if is_taken (answer_at (row_at head.instant rows.old.items) head.stream head.lane (cells_in B.view cells.now head.quality))
         then with_row (with_frame head.stream head.lane (cells_in B.view cells.now head.quality)) (blank_row places.streams places.columns head.instant) rows.old.items
         else rows.old.items) }
+    ensures count { length rows.new.items + length free.new.items ≡ length rows.old.items + length free.old.items }
+    ensures free_each { AllByRecursion (HasPlaces places.streams places.columns) free.new.items }
     ensures capacity { vec_capacity rows.new ≡ vec_capacity rows.old }
+    ensures free_capacity { free.new.capacity ≡ free.old.capacity }
 {
     match find(rows, head.instant, places) {
         Ok(place) => rows[place].offer(head.stream, head.lane, cells, head.quality),
         Err(place) => {
-            let mut row = AgedRow::blank(head.instant, places);
+            let mut row = begin(free, places, head.instant);
             row.take(head.stream, head.lane, cells, head.quality);
             rows.insert(place, row).unwrap();
             PutOutcome::Taken
@@ -209,9 +250,24 @@ fn highest(rows: &[AgedRow], closed: &HeldQueue<DueRow>) -> Option<u64>
     }
 }
 
-/// Closes the rows for which every row up to them is due, and answers how many.
+/// Moves so many rows from the front to those that are free.
+fn leave_front(rows: &mut Vec<AgedRow>, free: &mut HeldQueue<AgedRow>, count: usize)
+    requires bound { count ≤ length rows.old.items }
+    requires room { length free.old.items + count ≤ free.old.capacity }
+    ensures items { rows.new.items ≡ drop count rows.old.items }
+    ensures free { free.new.items ≡ free.old.items ++ take count rows.old.items }
+    ensures capacity { vec_capacity rows.new ≡ vec_capacity rows.old }
+    ensures free_capacity { free.new.capacity ≡ free.old.capacity }
+{
+    for _ in 0..count {
+        free.push_back(rows.remove(0));
+    }
+}
+
+/// Closes the rows for which every row up to them is due, and answers how many. They are free then.
 pub fn close_due(
     rows: &mut Vec<AgedRow>,
+    free: &mut HeldQueue<AgedRow>,
     rule: &DueRule,
     layout: &RowLayout,
     closed: &mut HeldQueue<DueRow>,
@@ -220,14 +276,17 @@ pub fn close_due(
 ) -> usize
     requires rising { Rises last.old (instants_of rows.old.items) }
     requires room { length closed.old.items + vec_len rows.old ≤ closed.old.capacity }
+    requires free_room { length free.old.items + vec_len rows.old ≤ free.old.capacity }
     ensures answer { result ≡ length (closing rule.now.required.now rule.now.wait rows.old.items) }
     ensures rows { rows.new.items ≡ staying rule.now.required.now rule.now.wait rows.old.items }
+    ensures free { free.new.items ≡ free.old.items ++ closing rule.now.required.now rule.now.wait rows.old.items }
     ensures closed { map row_view closed.new.items ≡ map row_view closed.old.items
         ++ map (row_of (layout_view layout.now)) (closing rule.now.required.now rule.now.wait rows.old.items) }
     ensures last { last.new ≡ greatest last.old (instants_of (closing rule.now.required.now rule.now.wait rows.old.items)) }
     ensures disagree { disagree.new ≡ counter
         (disagree.old + disagreements_in (layout_view layout.now) (closing rule.now.required.now rule.now.wait rows.old.items)) }
     ensures capacity { vec_capacity rows.new ≡ vec_capacity rows.old }
+    ensures free_capacity { free.new.capacity ≡ free.old.capacity }
     ensures closed_capacity { closed.new.capacity ≡ closed.old.capacity }
 {
     let count = count_due(rows, rule.required, rule.wait);
@@ -235,24 +294,39 @@ pub fn close_due(
     close(due, layout, closed);
     *last = greatest(due, *last);
     *disagree = count_disagreements(due, layout, *disagree);
-    remove_front(rows, count);
+    leave_front(rows, free, count);
     count
 }
 
-/// Makes these the open rows, for which there is room.
-pub fn copy_rows(rows: &mut Vec<AgedRow>, places: Places, others: &[AgedRow])
-    requires streams { places.streams ≤ MAX_COLUMNS }
-    requires columns { places.columns ≤ MAX_COLUMNS }
+/// Opens a copy of each of these rows, for which there is room: each is one of those that are free.
+fn open_copies(rows: &mut Vec<AgedRow>, free: &mut HeldQueue<AgedRow>, others: &[AgedRow])
+    requires none { length rows.old.items ≡ 0 }
     requires room { length others.now ≤ vec_capacity rows.old }
+    requires free { length others.now ≤ length free.old.items }
     ensures items { rows.new.items ≡ others.now }
+    ensures free { free.new.items ≡ drop (length others.now) free.old.items }
     ensures capacity { vec_capacity rows.new ≡ vec_capacity rows.old }
+    ensures free_capacity { free.new.capacity ≡ free.old.capacity }
 {
-    rows.clear();
     for other in others {
-        let mut row = AgedRow::blank(0, places);
+        let mut row = free.pop_front().unwrap();
         row.copy_from(other);
         rows.push_reserved(row);
     }
+}
+
+/// Makes these the open rows, for which there is room. Those that were open are free first, and may be opened again.
+pub fn copy_rows(rows: &mut Vec<AgedRow>, free: &mut HeldQueue<AgedRow>, others: &[AgedRow])
+    requires room { length others.now ≤ vec_capacity rows.old }
+    requires free_room { length free.old.items + length rows.old.items ≤ free.old.capacity }
+    requires enough { length others.now ≤ length free.old.items + length rows.old.items }
+    ensures items { rows.new.items ≡ others.now }
+    ensures free { free.new.items ≡ drop (length others.now) (free.old.items ++ rows.old.items) }
+    ensures capacity { vec_capacity rows.new ≡ vec_capacity rows.old }
+    ensures free_capacity { free.new.capacity ≡ free.old.capacity }
+{
+    leave_front(rows, free, rows.len());
+    open_copies(rows, free, others);
 }
 
 /// The row again.

@@ -16,7 +16,7 @@ use pdc_table::{
 use std::alloc::{AllocError, Global};
 use std::marker::Model;
 
-/// A table kept as one row for each open instant, in rising order.
+/// A table kept as one row for each open instant, in rising order. There are as many rows as the window has instants.
 #[derive(Drop)]
 pub struct SortedTable {
     window: u64,
@@ -24,6 +24,8 @@ pub struct SortedTable {
     lanes: usize,
     required: ArrayVec<bool, MAX_COLUMNS>,
     rows: Vec<AgedRow>,
+    /// The rows that are not open, each to be begun again: all memory is taken once.
+    free: HeldQueue<AgedRow>,
     closed: HeldQueue<DueRow>,
     last: u64,
     disagree: u64,
@@ -76,7 +78,7 @@ impl SortedTable {
             instant,
             quality,
         };
-        rows::take(&mut self.rows, places, head, cells)
+        rows::take(&mut self.rows, &mut self.free, places, head, cells)
     }
 }
 
@@ -95,12 +97,15 @@ impl Table for SortedTable {
         floor: u64,
     ) -> Result<SortedTable, AllocError> {
         let room = window as usize;
+        let streams = stream_count(columns, lanes);
+        let places = Places { streams, columns };
         Ok(SortedTable {
             window,
             columns,
             lanes,
-            required: falses(stream_count(columns, lanes)),
+            required: falses(streams),
             rows: with_room(alloc, room)?,
+            free: rows::free_rows(alloc, room, places)?,
             closed: HeldQueue::with_capacity(alloc, room)?,
             last: floor,
             disagree: 0,
@@ -133,11 +138,7 @@ impl Table for SortedTable {
         self.columns = other.columns;
         self.lanes = other.lanes;
         copy_items(&mut self.required, other.required.as_slice());
-        let places = Places {
-            streams: self.required.len(),
-            columns: self.columns,
-        };
-        rows::copy_rows(&mut self.rows, places, other.rows.as_slice());
+        rows::copy_rows(&mut self.rows, &mut self.free, other.rows.as_slice());
         rows::copy_closed(&mut self.closed, &other.closed);
         self.last = other.last;
         self.disagree = other.disagree;
@@ -153,6 +154,7 @@ impl Table for SortedTable {
         let SortedTable {
             required,
             rows,
+            free,
             closed,
             last,
             disagree,
@@ -163,7 +165,7 @@ impl Table for SortedTable {
             required,
             wait: rule,
         };
-        rows::close_due(rows, &rule, layout, closed, last, disagree) as u32
+        rows::close_due(rows, free, &rule, layout, closed, last, disagree) as u32
     }
 
     fn drop_stream(&mut self, stream: usize) {

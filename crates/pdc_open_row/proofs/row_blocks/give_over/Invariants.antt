@@ -8,7 +8,7 @@ use Rattle.pdc_open_row.proofs.row_blocks.give_over.Given as goal
 -- as many as were looked at are those that the columns give, the others are those of lane 0
 abbrev pub invariant-loop-place : goal.invariant-loop-place
 invariant-loop-place l = record {
-  blocks : l.blocks ≡ take l.place (blocks_of (map Some (shapes_of l.first)) (columns_of l.held l.first l.second)) ++ drop l.place l.first;
-  quality : worst_of (worst_kept l.above) (qualities_of (drop l.place (map Some (shapes_of l.first))) (drop l.place (columns_of l.held l.first l.second))) ≡ quality_of (qualities_of (map Some (shapes_of l.first)) (columns_of l.held l.first l.second));
+  blocks : l.blocks ≡ take l.place (blocks_of (map Some (shapes_of l.initial.blocks)) (columns_of l.held l.initial.blocks l.second)) ++ drop l.place l.initial.blocks;
+  quality : worst_of (worst_kept l.above) (qualities_of (drop l.place (map Some (shapes_of l.initial.blocks))) (drop l.place (columns_of l.held l.initial.blocks l.second))) ≡ quality_of (qualities_of (map Some (shapes_of l.initial.blocks)) (columns_of l.held l.initial.blocks l.second));
   fits : l.above ≤ 16;
 }

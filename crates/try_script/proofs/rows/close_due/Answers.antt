@@ -1,5 +1,7 @@
-use Rattle.std.proofs.Common.{rules, ◌+◌, ◌++◌, ◌∙◌, ap, map}
+use Rattle.std.proofs.Common.{rules, refl, ◌+◌, ◌++◌, ◌∙◌, ap, map}
+use Rattle.std.specs.List.{prefix_len}
 use Rattle.pdc_table.specs.Closing.{counter}
+use Rattle.pdc_table.specs.pdc_open_row.Due.{is_due}
 use Rattle.pdc_row.specs.RowView.{row_view}
 use Rattle.pdc_table.specs.pdc_open_row.Layout.{layout_view}
 use Rattle.pdc_table.specs.pdc_open_row.Row.{row_of}
@@ -13,7 +15,12 @@ pub returns-clause-answer : goal.returns-clause-answer
 returns-clause-answer c = front_length c.args.rule.now.required.now c.args.rule.now.wait c.args.last.now c.args.rows.now.items c.deref.result.now c.count_due-count.result c.deref.ensures.value c.count_due-count.ensures.count c.requires.rising
 
 pub returns-clause-rows : goal.returns-clause-rows
-returns-clause-rows c = c.remove_front.ensures.items ∙ back_is c.args.rule.now.required.now c.args.rule.now.wait c.args.last.now c.args.rows.now.items c.deref.result.now c.count_due-count.result c.deref.ensures.value c.count_due-count.ensures.count c.requires.rising
+returns-clause-rows c = c.leave_front.ensures.items ∙ back_is c.args.rule.now.required.now c.args.rule.now.wait c.args.last.now c.args.rows.now.items c.deref.result.now c.count_due-count.result c.deref.ensures.value c.count_due-count.ensures.count c.requires.rising
+
+pub returns-clause-free : goal.returns-clause-free
+returns-clause-free c =
+    c.leave_front.ensures.free ∙ ap (λ rows. c.args.free.now.items ++ rows)
+    (front_is c.args.rule.now.required.now c.args.rule.now.wait c.args.last.now c.args.rows.now.items c.args.rows.now.items c.count_due-count.result refl (c.count_due-count.ensures.count ∙ ap (prefix_len (is_due c.args.rule.now.required.now c.args.rule.now.wait)) c.deref.ensures.value) c.requires.rising)
 
 pub returns-clause-closed : goal.returns-clause-closed
 returns-clause-closed c =

@@ -26,4 +26,4 @@ invariant_of-self g c =
 pub returns-clause-tagged : goal.returns-clause-tagged
 returns-clause-tagged g c is =
     let old = c.bring_up.new.self in
-    tagged g.C.Core.rules (WasRead g.C.Settings.Reads.says g.C.Settings.Reads.fits g.N.Naming.settings) g.N.Naming.given (g.C.Core.stands_for old.base) (g.C.Core.stands_for old.state) old.log.seen.log old.events.items c.pop_into-is_some.new.row old.replays (λ h E s. search (rules, is, c.pop_into-is_some.ensures.next h E s))
+    tagged g.C.Core.rules (WasRead g.C.Settings.Reads.says g.C.Settings.Reads.fits g.N.Naming.settings) g.N.Naming.given (g.C.Core.stands_for old.base) (g.C.Core.stands_for old.state) old.log.seen.log old.events.items c.pop_into-is_some.new.row.value old.replays (λ h E s. search (rules, is, c.pop_into-is_some.ensures.next h E s))

@@ -1,8 +1,9 @@
-use Rattle.std.proofs.Common.{arith}
+use Rattle.std.proofs.Common.{ap, arith, length}
+use Rattle.pdc_row.specs.declared.due_row.DueRow.{DueRow}
 use Rattle.pdc_open_row.proofs.OpenRowParts.{columns_emptied}
 use Rattle.pdc_open_row.proofs.columns.Columns.blank.Goals as goal
 
-pub returns : goal.returns
-returns c =
-    rw c.blank.ensures (columns_emptied c.args.count c.blank_blocks.result c.blank_blocks-2.result
-    (omega (arith, c.blank_blocks.ensures)) (omega (arith, c.blank_blocks-2.ensures)))
+pub returns-clause-columns : goal.returns-clause-columns
+returns-clause-columns c =
+    rw c.blank.ensures (columns_emptied c.args.count c.in_ok-new.field-0.value.blocks c.in_ok-new-2.field-0.value
+    (omega (arith, c.blank_row.ensures, ap (λ (r : DueRow). length r.blocks) c.in_ok-new.ensures.value)) (omega (arith, c.blank_blocks.ensures, ap length c.in_ok-new-2.ensures.value)))

@@ -4,4 +4,4 @@ use Rattle.pdc_open_row.proofs.OpenRowParts.{none_replicated}
 use Rattle.pdc_open_row.proofs.open_row.OpenRow.blank.Goals as goal
 
 pub invariant_of-result : goal.invariant_of-result
-invariant_of-result c = λ e. ap any_second c.blank.ensures ∙ none_replicated c.args.places.columns
+invariant_of-result c = λ e. ap any_second c.in_ok-blank.ensures.columns ∙ none_replicated c.args.places.columns

@@ -19,7 +19,7 @@ offer-requires-clause-twin g c =
       | else-instant-here w ↦
           let found : c.item_mut-row.result.now ≡ row =
           c.item_mut-row.ensures.value
-          ∙ ap (λ rows. get_or rows c.args.here.now.place c.item_mut-row.result.now) c.lay_out_new.ensures.items
+          ∙ ap (λ rows. get_or rows c.args.here.now.place c.item_mut-row.result.now) c.make_ready.ensures.items
           ∙ get_or_default c.args.self.now.places.items c.args.here.now.place c.item_mut-row.result.now (blank_row 0 0 0)
           (omega (arith, c.args.here.now.known, mod-lt c.args.here.now.instant c.args.here.now.least, c.requires.size))
           ∙ ap (λ k. get_or c.args.self.now.places.items k (blank_row 0 0 0)) c.args.here.now.known in

@@ -1,6 +1,6 @@
 use Rattle.std.proofs.Common.{arith, ◌≡◌, ◌<◌, ◌∙◌, ℕ, subst, sym, true, length}
-use Rattle.std.specs.List.{All}
-use Rattle.pdc_table.specs.Content.{streams_of}
+use Rattle.std.specs.List.{All, AllByRecursion}
+use Rattle.pdc_table.specs.Content.{HasPlaces, streams_of}
 use Rattle.try_script.specs.SortedTable.{content_of}
 use Rattle.pdc_table.specs.Placing.{row_at}
 use Rattle.pdc_table.specs.OpenInstants.{instants_of}
@@ -20,6 +20,12 @@ take-requires-clause-room g c none =
     let room : length c.self.inside.rows.items < c.self.inside.window = has_room c.numbers_rise.ensures (content_of c.self.inside) c.args.instant c.if-instant-self.false near none c.self.invariant.content in
     omega (arith, c.self.invariant.room, room)
 
+pub take-requires-clause-free_one : goal.take-requires-clause-free_one
+take-requires-clause-free_one g c none =
+    let near : is_near_all (content_of c.self.inside) c.args.instant ≡ true = rw c.deref.ensures.value at (sym c.if-not-are_near.ensures) in
+    let room : length c.self.inside.rows.items < c.self.inside.window = has_room c.numbers_rise.ensures (content_of c.self.inside) c.args.instant c.if-instant-self.false near none c.self.invariant.content in
+    omega (arith, c.self.invariant.rows, room)
+
 pub take-requires-clause-columns : goal.take-requires-clause-columns
 take-requires-clause-columns g c =
     subst (λ (t : TableView). All (λ (cell : ℕ × g.row.B.Denot). cell.0 < t.content.columns) c.args.cells.now) (sym c.self.view_is)
@@ -32,6 +38,9 @@ invariant_of-self g c =
     record {
       content = rw (c.take.ensures.items, streams) (keeps-offered c.numbers_rise.ensures (content_of c.self.inside) (is_taken (answer_at (row_at c.args.instant c.self.inside.rows.items) c.args.stream c.lane_of-lane.result (cells_in g.B.Offered.view c.args.cells.now c.args.quality))) c.args.stream c.lane_of-lane.result c.args.instant (cells_in g.B.Offered.view c.args.cells.now c.args.quality) c.if-instant-self.false near c.self.invariant.content);
       room = omega (arith, c.self.invariant.room, c.take.ensures.capacity);
+      rows = c.take.ensures.count ∙ c.self.invariant.rows;
+      free_each = subst (λ n. AllByRecursion (HasPlaces n c.self.inside.columns) c.take.new.free.items) streams c.take.ensures.free_each;
+      free_room = omega (arith, c.self.invariant.free_room, c.take.ensures.free_capacity);
       closed_room = c.self.invariant.closed_room;
     }
 

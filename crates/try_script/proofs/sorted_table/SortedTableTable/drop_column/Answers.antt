@@ -1,4 +1,7 @@
+use Rattle.std.proofs.Common.{arith, ap, length}
+use Rattle.std.proofs.lemmas.List.{length-map}
 use Rattle.try_script.specs.SortedTable.{content_of}
+use Rattle.pdc_table.specs.pdc_open_row.Taking.{without_column}
 use Rattle.pdc_table.proofs.Keeps.{keeps-drop_column}
 use Rattle.try_script.proofs.sorted_table.SortedTableTable.drop_column.Goals as goal
 
@@ -6,6 +9,9 @@ pub invariant_of-self : goal.invariant_of-self
 invariant_of-self c = record {
   content = rw c.drop_column.ensures.items (keeps-drop_column (content_of c.self.inside) c.args.column c.self.invariant.content);
   room = rw c.drop_column.ensures.capacity c.self.invariant.room;
+  rows = omega (arith, ap length c.drop_column.ensures.items, length-map c.self.inside.rows.items (without_column c.args.column), c.self.invariant.rows);
+  free_each = c.self.invariant.free_each;
+  free_room = c.self.invariant.free_room;
   closed_room = c.self.invariant.closed_room;
 }
 

@@ -13,6 +13,9 @@ invariant_of-self c =
     record {
       content = rw e (keeps-pop c.numbers_rise.ensures (content_of c.self.inside) c.self.invariant.content);
       room = c.self.invariant.room;
+      rows = c.self.invariant.rows;
+      free_each = c.self.invariant.free_each;
+      free_room = c.self.invariant.free_room;
       closed_room = rw c.pop_front.ensures.capacity c.self.invariant.closed_room;
     }
 

@@ -6,6 +6,7 @@ use Rattle.pdc_table.specs.pdc_open_row.Layout.{layout_view}
 use Rattle.try_script.specs.SortedTable.{content_of}
 use Rattle.pdc_table.specs.Steps.{closing_of}
 use Rattle.pdc_table.proofs.Keeps.{aged_rise, closed_shapes, closing_few, held_fit, keeps-tick}
+use Rattle.try_script.proofs.Free.{count_after_tick, each_after_tick}
 use Rattle.try_script.proofs.sorted_table.SortedTableTable.tick.Goals as goal
 
 pub close_due-requires-clause-rising : goal.close_due-requires-clause-rising
@@ -19,6 +20,12 @@ close_due-requires-clause-room c =
     let closed : length c.self.inside.closed.items ≡ length c.self.inside.closed.items = refl in
     omega (arith, c.self.invariant.closed_room, length-map c.self.inside.closed.items row_view)
 
+pub close_due-requires-clause-free_room : goal.close_due-requires-clause-free_room
+close_due-requires-clause-free_room c =
+    let grown : length c.grow_older.new.rows.items ≡ length c.self.inside.rows.items = ap length c.grow_older.ensures.items ∙ length-map c.self.inside.rows.items aged in
+    let rows : vec_len c.grow_older.new.rows ≡ length c.grow_older.new.rows.items = search rules in
+    omega (arith, c.self.invariant.free_room, c.self.invariant.rows)
+
 pub overflow_cast-result : goal.overflow_cast-result
 overflow_cast-result c =
     let few : length (closing_of (content_of c.self.inside) c.args.rule) ≤ c.self.inside.window = closing_few c.numbers_rise.ensures (content_of c.self.inside) c.args.rule c.self.invariant.content in
@@ -31,6 +38,9 @@ pub invariant_of-self : goal.invariant_of-self
 invariant_of-self c = record {
   content = rw (c.close_due.ensures.rows, c.close_due.ensures.closed, c.close_due.ensures.last, c.as_slice-required.ensures.value, c.grow_older.ensures.items) (keeps-tick c.numbers_rise.ensures (content_of c.self.inside) c.args.rule (layout_view c.args.layout.now) c.self.invariant.content);
   room = rw (c.close_due.ensures.capacity, c.grow_older.ensures.capacity) c.self.invariant.room;
+  rows = rw (c.close_due.ensures.rows, c.close_due.ensures.free, c.as_slice-required.ensures.value, c.grow_older.ensures.items) (count_after_tick (content_of c.self.inside) c.args.rule c.self.inside.free.items c.self.invariant.content.open_above ∙ c.self.invariant.rows);
+  free_each = rw (c.close_due.ensures.free, c.as_slice-required.ensures.value, c.grow_older.ensures.items) (each_after_tick (content_of c.self.inside) c.args.rule c.self.inside.free.items c.self.invariant.free_each c.self.invariant.content);
+  free_room = rw c.close_due.ensures.free_capacity c.self.invariant.free_room;
   closed_room = rw c.close_due.ensures.closed_capacity c.self.invariant.closed_room;
 }
 
