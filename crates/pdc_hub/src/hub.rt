@@ -1,5 +1,5 @@
 //! The lock round a core.
-ghost use Rattle.std.specs.Prelude.{◌≡◌, ◌^◌, ◌<◌, ◌≤◌, Err, IfOk, IfSome, OnErr, OnOk, Some, []};
+ghost use Rattle.std.specs.Prelude.{◌≡◌, ◌^◌, ◌<◌, ◌≤◌, ◌⊎◌, Err, IfOk, IfSome, OnErr, OnOk, Some, []};
 ghost use Rattle.std.specs.Prelude.{false, true};
 ghost use Rattle.pdc_core.specs.KeptArrival.{taken_view};
 ghost use Rattle.pdc_core.specs.Step.{ticked_of};
@@ -17,7 +17,7 @@ ghost use Rattle.pdc_hub.specs.Pops.{popped_by};
 ghost use Rattle.pdc_hub.specs.Pops.{HasPoppedNone, HasPoppedOne, HasSameShares};
 ghost use Rattle.pdc_hub.specs.Replay.{AreSaid, WasRead};
 ghost use Rattle.pdc_log.specs.Log.{InTheLife, came_in};
-ghost use Rattle.pdc_memory.specs.Asking.{ForSome, SomeWasRefused};
+ghost use Rattle.pdc_memory.specs.Asking.{ForSome, WasRefused};
 ghost use mathlib.Core.List.{IsPrefix};
 
 use crate::fault::HubFault;
@@ -73,7 +73,7 @@ impl<C: Core + Drop, N: Naming<C::Settings>> Hub<C, N> {
             × (made.2.top.amount ≡ floor)) }
         ensures none { IfOk result (λ made. (popped_by made.2 ≡ 0) × (made.1.front ≡ [])
             × (made.2.front ≡ [])) }
-        ensures denied { OnErr result SomeWasRefused }
+        ensures denied { OnErr result (WasRefused limit ⊎ WasRefused 1) }
     {
         let row = spare_row(alloc)?;
         let Blanks {

@@ -63,7 +63,7 @@ fn blank_blocks(count: usize) -> RowBlocks
 }
 
 /// A row of so many blocks, to be written over.
-fn blank_row(count: usize) -> DueRow
+fn row_to_fill(count: usize) -> DueRow
     requires { count ≤ MAX_COLUMNS }
     ensures { length result.blocks ≡ count }
 {
@@ -89,7 +89,7 @@ impl Columns {
     {
         Ok(Columns {
             held: Lanes::blank(count),
-            first: HeldBox::new(alloc, blank_row(count))?,
+            first: HeldBox::new(alloc, row_to_fill(count))?,
             second: HeldBox::new(alloc, blank_blocks(count))?,
         })
     }

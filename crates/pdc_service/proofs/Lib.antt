@@ -1,3 +1,4 @@
 mod Handing
 mod Nothing
+mod Refused
 mod Steps
