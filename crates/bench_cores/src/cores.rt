@@ -114,11 +114,7 @@ impl<C: Core + Drop> Concentrator<C> {
         if row.instant <= self.publisher.last() || row.instant >= end {
             return;
         }
-        if self
-            .publisher
-            .publish_into(row, &mut self.frame)
-            .is_ok()
-        {
+        if self.publisher.publish_into(row, &mut self.frame).is_ok() {
             self.mixed = with_end(self.mixed, self.frame.bytes.as_slice());
         }
     }
