@@ -19,7 +19,9 @@ const TURNS: u64 = 1_000_000_000;
 pub struct Feed<'a> {
     frames: &'a [Vec<u8>],
     given: usize,
-    /// How many of its frames were delivered.
+    /// How many of its frames it has told to be delivered,
+    told: usize,
+    /// and where it tells it.
     delivered: &'a AtomicU64,
     /// Up to which number its frames may be given.
     released: &'a AtomicU64,
@@ -35,6 +37,7 @@ impl<'a> Feed<'a> {
         Feed {
             frames,
             given: 0,
+            told: 0,
             delivered,
             released,
         }
@@ -50,7 +53,10 @@ impl<'a> Source for Feed<'a> {
 
     fn next(&mut self, buffer: &mut [u8]) -> Next {
         // What was given before was delivered, since more is asked for.
-        self.delivered.store(self.given as u64, Ordering::Release);
+        if self.told < self.given {
+            self.delivered.store(self.given as u64, Ordering::Release);
+            self.told = self.given;
+        }
         let Some(frame) = self.frames.get(self.given) else {
             return Next::End;
         };

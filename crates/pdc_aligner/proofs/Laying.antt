@@ -23,6 +23,7 @@ use Rattle.pdc_row.specs.RowView.{RowView, row_view}
 use Rattle.pdc_row.specs.declared.due_row.DueRow.{DueRow}
 use Rattle.pdc_row.specs.declared.output.Output.{Output}
 use Rattle.pdc_pipe.specs.Sequence.{bytes_of}
+use Rattle.pdc_pipe.specs.pdc_memory.Held.{held_value}
 use Rattle.pdc_pipe.specs.declared.message.LayoutFrame.{LayoutFrame}
 use Rattle.pdc_pipe.specs.declared.message.Message.{Message}
 use Rattle.pdc_pipe.specs.declared.message.Message.TheVariants.{Data, Layout, End}
@@ -31,7 +32,7 @@ use Rattle.pdc_aligner.specs.Laid.{AreDone, HasPutLayout, IsAsked, IsAt, IsBefor
 
 bytes_append : (xs ys : List Message) → bytes_of (xs ++ ys) ≡ bytes_of xs ++ bytes_of ys
 bytes_append [] ys = refl
-bytes_append (Data p ∷ ms) ys = ap (λ l. p.bytes.items ∷ l) (bytes_append ms ys)
+bytes_append (Data p ∷ ms) ys = ap (λ l. p.value.bytes.items ∷ l) (bytes_append ms ys)
 bytes_append (Layout b ∷ ms) ys = ap (λ l. b.bytes.items ∷ l) (bytes_append ms ys)
 bytes_append (End ∷ ms) ys = bytes_append ms ys
 
@@ -118,7 +119,7 @@ pop_laid rules named output rate every number row before after put more t p h =
     let at : frames_of g output rate every (Pop (pop_answer E) ∷ E) ≡ frames_of g output rate every E ++ wire_of output (row_view row) ∷ [] =
     ap (λ (r : Option RowView). frames_of g output rate every (Pop r ∷ E)) (sym given) in
     let bytes : bytes_of more ≡ bytes_of put ++ wire_of output (row_view row) ∷ [] =
-    ap bytes_of p.behind ∙ (bytes_append put (Data p.frame ∷ []) ∙ ap (λ (b : List ℕ). bytes_of put ++ b ∷ []) p.framed.wire) in (
+    ap bytes_of p.behind ∙ (bytes_append put (Data (held_value p.frame) ∷ []) ∙ ap (λ (b : List ℕ). bytes_of put ++ b ∷ []) p.framed.wire) in (
       g,
       x.1,
       ap (λ (l : List ReadStep). frames_of g output rate every (life_of rules g l)) t.added.added ∙ (ap (frames_of g output rate every) (life_of-snoc rules g m ToPop) ∙

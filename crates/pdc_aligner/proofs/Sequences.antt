@@ -1,6 +1,7 @@
 -- The instants of what is put.
 use Rattle.std.proofs.Common.{arith, ◌<◌, ◌≤◌, ◌+◌, ◌≡◌, ℕ, List, [], ◌∷◌, ◌++◌, Result, Ok, Err, length, sym, refl, ap, ◌∙◌, subst, append-nil}
 use Rattle.std.proofs.lemmas.List.{length-append}
+use Rattle.pdc_pipe.specs.pdc_memory.Held.{HeldValue}
 use Rattle.pdc_pipe.specs.declared.message.Message.{Message}
 use Rattle.pdc_pipe.specs.declared.message.Message.TheVariants.{Data, Layout, End}
 use Rattle.pdc_pipe.specs.declared.message.LayoutFrame.{LayoutFrame}
@@ -10,7 +11,7 @@ use Rattle.pdc_aligner.specs.Sequence.{HasPutAll, Rises, instants_of}
 
 pub instants_of-append : (xs ys : List Message) → instants_of (xs ++ ys) ≡ instants_of xs ++ instants_of ys
 instants_of-append [] ys = refl
-instants_of-append (Data p ∷ ms) ys = ap (λ l. p.instant ∷ l) (instants_of-append ms ys)
+instants_of-append (Data p ∷ ms) ys = ap (λ l. p.value.instant ∷ l) (instants_of-append ms ys)
 instants_of-append (Layout b ∷ ms) ys = instants_of-append ms ys
 instants_of-append (End ∷ ms) ys = instants_of-append ms ys
 
@@ -22,7 +23,7 @@ pub rises_on : (low : ℕ) (ns : List ℕ) (high n : ℕ) → Rises low ns high 
 rises_on low [] high n r l = omega (arith, r, l)
 rises_on low (m ∷ ms) high n r l = (r.0, rises_on m ms high n r.1 l)
 
-pub put_data : (put after : List Message) (p : Published) → after ≡ put ++ Data p ∷ [] → instants_of after ≡ instants_of put ++ p.instant ∷ []
+pub put_data : (put after : List Message) (p : HeldValue Published) → after ≡ put ++ Data p ∷ [] → instants_of after ≡ instants_of put ++ p.value.instant ∷ []
 put_data put after p e = ap instants_of e ∙ instants_of-append put (Data p ∷ [])
 
 pub put_layout : (put after : List Message) (b : LayoutFrame) → after ≡ put ++ Layout b ∷ [] → instants_of after ≡ instants_of put
@@ -39,8 +40,8 @@ length_more : (ns : List ℕ) (n : ℕ) → length (ns ++ n ∷ []) ≡ length n
 length_more ns n = length-append ns (n ∷ [])
 
 -- a data frame that was put is one more
-pub one_more : (put after : List Message) (p : Published) → after ≡ put ++ Data p ∷ [] → length (instants_of after) ≡ length (instants_of put) + 1
-one_more put after p e = ap length (put_data put after p e) ∙ length_more (instants_of put) p.instant
+pub one_more : (put after : List Message) (p : HeldValue Published) → after ≡ put ++ Data p ∷ [] → length (instants_of after) ≡ length (instants_of put) + 1
+one_more put after p e = ap length (put_data put after p e) ∙ length_more (instants_of put) p.value.instant
 
 -- as many frames as rows
 pub put_all : {A : Type 0} (first popped : ℕ) (before put : List Message) (x : A) → popped + length (instants_of before) ≡ first + length (instants_of put) → HasPutAll first popped before put (Ok x)

@@ -5,13 +5,14 @@ use Rattle.pdc_row.specs.declared.output.Output.{Output}
 use Rattle.pdc_publisher.specs.Published.{IsRowFrame}
 use Rattle.pdc_publisher.specs.declared.published.Published.{Published}
 use Rattle.pdc_row.specs.RowView.{RowView}
+use Rattle.pdc_pipe.specs.pdc_memory.Held.{held_value}
 use Rattle.pdc_pipe.specs.declared.message.Message.{Message}
 use Rattle.pdc_pipe.specs.declared.message.Message.TheVariants.{Data, Layout, End}
 
 -- the instants of the data frames, in order
 abbrev pub instants_of : List Message → List ℕ
 instants_of [] = []
-instants_of (Data frame ∷ ms) = frame.instant ∷ instants_of ms
+instants_of (Data frame ∷ ms) = frame.value.instant ∷ instants_of ms
 instants_of (Layout frame ∷ ms) = instants_of ms
 instants_of (End ∷ ms) = instants_of ms
 
@@ -36,4 +37,4 @@ pub record HasPutAll {A : Type 0} (first popped : ℕ) (before put : List Messag
 pub record HasPutRow (output : Output) (row : RowView) (before put : List Message) : Type 0 where
   pub frame : Published
   pub framed : IsRowFrame frame.instant frame.start frame.change frame.bytes.items output row
-  pub behind : put ≡ before ++ Data frame ∷ []
+  pub behind : put ≡ before ++ Data (held_value frame) ∷ []

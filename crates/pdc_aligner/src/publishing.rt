@@ -23,12 +23,12 @@ use pdc_hub::{Hub, HubFault, Naming, Pops};
 use pdc_mark::Mark;
 use pdc_pipe::{Message, Writer, put};
 use pdc_ports::{Did, Numbered, Ticker};
-use pdc_publisher::{Publisher, spare_frame};
+use pdc_publisher::Publisher;
 use pdc_row::DueRow;
 use std::sync::Wait;
 
-/// Publishes a row that was popped by this step, and puts its frame on the channel: it is written where the message has it. The ticker is
-/// told of it.
+/// Publishes a row that was popped by this step, and puts its frame on the channel: it is written where the sender reads it, over one that was
+/// sent. The ticker is told of it.
 fn publish_one<M: Mark, K: Ticker, R: Wait>(
     rt: &R,
     publisher: &mut Publisher<M>,
@@ -55,8 +55,10 @@ fn publish_one<M: Mark, K: Ticker, R: Wait>(
     ensures gave { GivesNone K.gave ticker.old ticker.new }
 {
     let instant = row.instant;
-    let mut frame = spare_frame(publisher.output());
-    if publisher.publish_into(row, &mut frame).is_err() {
+    let Some(mut frame) = writer.spares.take(rt) else {
+        return Err(HubFault::Stuck);
+    };
+    if publisher.publish_into(row, frame.get_mut()).is_err() {
         ticker.note(
             step,
             &Did::Popped {
@@ -70,7 +72,7 @@ fn publish_one<M: Mark, K: Ticker, R: Wait>(
         step,
         &Did::Popped {
             instant,
-            frame: Some(frame.bytes.as_slice()),
+            frame: Some(frame.get().bytes.as_slice()),
         },
     );
     if !put(rt, writer, Message::Data(frame)) {

@@ -33,7 +33,10 @@ use pdc_log::Front;
 use pdc_mark::Mark;
 use pdc_ports::Numbered;
 use std::alloc::{AllocError, Global};
-use std::sync::{Mutex, OnceLock, OnceToken, Wait};
+use std::sync::{Mutex, MutexGuard, OnceLock, OnceToken, Wait};
+
+/// How often the lock is tried before a thread sleeps until it is free.
+const TRIES: u32 = 100;
 
 /// The lock round a core, and beside it whether no more is to be delivered. Each call but [`Hub::closed`] takes the lock once, and may
 /// wait for it.
@@ -115,6 +118,17 @@ impl<C: Core + Drop, N: Naming<C::Settings>> Hub<C, N> {
         ))
     }
 
+    /// Takes the lock. It is held for less than a microsecond, so it is tried some times before the thread sleeps.
+    #[inline(always)]
+    fn locked<R: Wait>(&self, rt: &R) -> MutexGuard<'_, LockedCore<C, N>> {
+        for _ in 0..TRIES {
+            if let Some(guard) = self.table.try_lock() {
+                return guard;
+            }
+        }
+        self.table.lock(rt)
+    }
+
     /// Adds what arrived for a stream, and counts its answer in the caller's shares. The answer is that of the one life, behind all that the
     /// caller had seen of it, and bears the number of the step, given under the lock: how many steps that life had. What is left of what
     /// arrived is to be written over.
@@ -142,9 +156,7 @@ impl<C: Core + Drop, N: Naming<C::Settings>> Hub<C, N> {
         ensures causes { OnErr result (result ≡ Err HubFault.CountsUsedUp) }
         ensures err { OnErr result (AreAsBefore mine.old mine.new × (datagram.new ≡ datagram.old)) }
     {
-        self.table
-            .lock(rt)
-            .deliver(rt, stream, bytes, datagram, mine)
+        self.locked(rt).deliver(rt, stream, bytes, datagram, mine)
     }
 
     /// Ticks: the instant that is now, and for each column the count up to which a section may be adopted, which is the one that the mark
@@ -163,7 +175,7 @@ impl<C: Core + Drop, N: Naming<C::Settings>> Hub<C, N> {
         ensures none { PopsNothing pops.old pops.new }
     {
         let counts = mark.counts();
-        self.table.lock(rt).tick(rt, pops, now, &counts)
+        self.locked(rt).tick(rt, pops, now, &counts)
     }
 
     /// Pops the lowest row that closed and was not popped, which takes the place of the one popped before, and counts it. Whether there was one.
@@ -178,7 +190,7 @@ impl<C: Core + Drop, N: Naming<C::Settings>> Hub<C, N> {
         ensures none { result.answer ≡ false → HasPoppedNone pops.old pops.new }
         ensures parts { HasSameShares pops.old pops.new }
     {
-        self.table.lock(rt).pop(rt, pops)
+        self.locked(rt).pop(rt, pops)
     }
 
     /// Appends the frame of the layout in force, dated with this second.
@@ -201,12 +213,12 @@ impl<C: Core + Drop, N: Naming<C::Settings>> Hub<C, N> {
             × ForSome (B.refused out.new)) }
         ensures err { OnErr result (B.content out.new ≡ B.content out.old) }
     {
-        self.table.lock(rt).layout(rt, pops, soc, out)
+        self.locked(rt).layout(rt, pops, soc, out)
     }
 
     /// How arrivals were answered.
     pub fn counts<R: Wait>(&self, rt: &R) -> Counts {
-        self.table.lock(rt).counts()
+        self.locked(rt).counts()
     }
 
     /// How arrivals were answered in the life with all that the caller had seen, and what others added since.
@@ -214,7 +226,7 @@ impl<C: Core + Drop, N: Naming<C::Settings>> Hub<C, N> {
         ensures later { IsPrefix seen.old seen.new }
         ensures counts { InTheLife C.rules N.given seen.new (λ g E. result ≡ counts_after E) }
     {
-        self.table.lock(rt).counts_behind(rt, seen)
+        self.locked(rt).counts_behind(rt, seen)
     }
 
     /// How arrivals were answered. Who has all parts learns that these are the amounts of the shares.
@@ -230,7 +242,7 @@ impl<C: Core + Drop, N: Naming<C::Settings>> Hub<C, N> {
         ensures said { ∥ AreSaid (WasRead C.Settings.says C.Settings.fits N.settings)
             pops.new.front ∥₁ }
     {
-        self.table.lock(rt).totals(rt, all, pops)
+        self.locked(rt).totals(rt, all, pops)
     }
 
     /// Shows all steps to who pops, among them all that these shares saw. Each was read from bytes that say it.
@@ -242,7 +254,7 @@ impl<C: Core + Drop, N: Naming<C::Settings>> Hub<C, N> {
         ensures said { ∥ AreSaid (WasRead C.Settings.says C.Settings.fits N.settings)
             pops.new.front ∥₁ }
     {
-        self.table.lock(rt).look(rt, all, pops);
+        self.locked(rt).look(rt, all, pops);
     }
 
     /// For each column the count that waits to be stored.
@@ -252,7 +264,7 @@ impl<C: Core + Drop, N: Naming<C::Settings>> Hub<C, N> {
         ensures waits { InTheLife C.rules N.given pops.new.front (λ g E. result ≡
             waiting_counts g E) }
     {
-        self.table.lock(rt).waiting(rt, pops)
+        self.locked(rt).waiting(rt, pops)
     }
 
     /// Whether the lowest open instant is whole: each stream that it waits for has come. Where none is open, none is. It is told of a life with
@@ -261,7 +273,7 @@ impl<C: Core + Drop, N: Naming<C::Settings>> Hub<C, N> {
         ensures later { IsPrefix seen.old seen.new }
         ensures whole { InTheLife C.rules N.given seen.new (λ g E. result ≡ is_whole g E) }
     {
-        self.table.lock(rt).is_whole(rt, seen)
+        self.locked(rt).is_whole(rt, seen)
     }
 
     /// No more is to be delivered. Only who pops closes it, with all parts of the share, so no receiver does. Answers what shows it.

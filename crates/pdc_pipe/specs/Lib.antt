@@ -4,4 +4,5 @@ pub mod Layout
 pub mod Pipe
 pub mod Sequence
 pub mod Writing
+pub use Rattle.pdc_memory.specs as pdc_memory
 pub use Rattle.pdc_publisher.specs as pdc_publisher

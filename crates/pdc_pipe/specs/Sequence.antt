@@ -6,7 +6,7 @@ use Rattle.pdc_pipe.specs.declared.message.Message.TheVariants.{Data, Layout, En
 -- the bytes of the frames, in order
 abbrev pub bytes_of : List Message → List (List ℕ)
 bytes_of [] = []
-bytes_of (Data frame ∷ ms) = frame.bytes.items ∷ bytes_of ms
+bytes_of (Data frame ∷ ms) = frame.value.bytes.items ∷ bytes_of ms
 bytes_of (Layout frame ∷ ms) = frame.bytes.items ∷ bytes_of ms
 bytes_of (End ∷ ms) = bytes_of ms
 

@@ -10,6 +10,7 @@ use crate::message::Message;
 use crate::outlet::Outlet;
 use crate::pipe::{CAPACITY, InOrder, Log, Receiver, Roles, Total};
 use crate::senders::{Ended, send_out};
+use crate::spares::{Returns, spare_channel};
 use crate::writer::Writer;
 use crossbeam_channel::{Pass, bounded_with};
 use pdc_ports::Sink;
@@ -27,9 +28,11 @@ pub struct Ends {
     pub from: Receiver,
     /// By which the sender takes.
     pub reader: Pass<Message, Log>,
+    /// Where the sender gives frames back.
+    pub back: Returns,
 }
 
-/// A channel with nothing in it.
+/// A channel with nothing in it, and none of the frames that go round.
 ///
 /// # Errors
 ///
@@ -41,11 +44,13 @@ pub fn channel(alloc: Global) -> Result<Ends, AllocError>
         × (view ends.reader ≡ log false true false [] []))) }
 {
     let (to, from, mut pass) = bounded_with::<Message, Log, InOrder, Global>(alloc, CAPACITY)?;
+    let (spares, back) = spare_channel(alloc)?;
     let reader = to.another::<Roles>(&mut pass);
     Ok(Ends {
-        writer: Writer { to, pass },
+        writer: Writer { to, pass, spares },
         from,
         reader,
+        back,
     })
 }
 
@@ -85,6 +90,7 @@ impl<'a, K: Sink> Promise<Sent<K>> for HandsOn<'a, K> {
 /// As [`send_out`], of a sink that is its own.
 pub fn send_owned<K: Outlet, R: Wait>(
     rt: &R,
+    back: Returns,
     from: &Receiver,
     pass: Pass<Message, Log>,
     sink: K,
@@ -97,7 +103,7 @@ pub fn send_owned<K: Outlet, R: Wait>(
 {
     let mut pass = pass;
     let mut sink = sink;
-    let ended = send_out(rt, from, &mut pass, &mut sink);
+    let ended = send_out(rt, &back, from, &mut pass, &mut sink);
     Sent { sink, pass, ended }
 }
 
@@ -110,7 +116,11 @@ pub fn settle<K: Sink>(writer: Writer, sent: Sent<K>) -> (K, Ended)
         HasHandedOn (K.took before sent.sink) (view sent.pass).taken sent.ended →
         HasHandedOn (K.took before result.0) (put_by writer) result.1 }
 {
-    let Writer { to, pass: own } = writer;
+    let Writer {
+        to,
+        pass: own,
+        spares: _,
+    } = writer;
     let mut own = own;
     let Sent { sink, pass, ended } = sent;
     to.absorb::<Roles>(&mut own, pass);

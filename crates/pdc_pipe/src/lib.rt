@@ -12,6 +12,7 @@ mod message;
 mod outlet;
 mod pipe;
 mod senders;
+mod spares;
 mod writer;
 
 pub use ends::{Ends, HandsOn, Sent, channel, send_owned, settle};
@@ -21,4 +22,5 @@ pub use pdc_ports::{Sink, SinkFault};
 pub use pdc_publisher::Published;
 pub use pipe::{CAPACITY, InOrder, Log, Receiver, Sender, close, put, take_next};
 pub use senders::{Ended, send_out};
+pub use spares::{Returns, Spares};
 pub use writer::Writer;

@@ -1,6 +1,7 @@
 //! What goes through the channel.
 ghost use Rattle.pdc_pipe.specs.Layout.{IsOfSomeLayout};
 
+use pdc_memory::HeldBox;
 use pdc_publisher::Published;
 use std::alloc::Global;
 
@@ -15,8 +16,8 @@ pub struct LayoutFrame {
 /// A data frame that was published, a layout frame, or the end mark.
 #[derive(Drop)]
 pub enum Message {
-    /// A data frame.
-    Data(Published),
+    /// A data frame. It goes as it was written, in memory that comes back.
+    Data(HeldBox<Published>),
     /// A layout frame.
     Layout(LayoutFrame),
     /// Nothing comes after it.

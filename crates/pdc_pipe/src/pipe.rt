@@ -110,7 +110,7 @@ pub fn put<R: Wait>(rt: &R, writer: &mut Writer, message: Message) -> bool
     ensures put { result ≡ true → put_by writer.new ≡ put_by writer.old ++ message ∷ [] }
     ensures not { result ≡ false → put_by writer.new ≡ put_by writer.old }
 {
-    let Writer { to, pass } = writer;
+    let Writer { to, pass, .. } = writer;
     to.send_as::<Puts, R>(rt, pass, message).is_ok()
 }
 
@@ -122,7 +122,7 @@ pub fn close<R: Wait>(rt: &R, writer: &mut Writer) -> bool
     ensures put { result ≡ true → put_by writer.new ≡ put_by writer.old ++ End ∷ [] }
     ensures not { result ≡ false → put_by writer.new ≡ put_by writer.old }
 {
-    let Writer { to, pass } = writer;
+    let Writer { to, pass, .. } = writer;
     to.send_as::<Closes, R>(rt, pass, Message::End).is_ok()
 }
 

@@ -11,6 +11,7 @@ ghost use Rattle.pdc_ports.specs.Failures.{HasRisen};
 use crate::message::Message;
 use crate::outlet::Outlet;
 use crate::pipe::{Log, Receiver, take_next};
+use crate::spares::Returns;
 use crossbeam_channel::Pass;
 use std::sync::Wait;
 
@@ -25,9 +26,10 @@ pub enum Ended {
     AlignerGone,
 }
 
-/// Hands what it takes to the sink, up to the end mark or the sink's first fault.
+/// Hands what it takes to the sink, up to the end mark or the sink's first fault, and gives its memory back.
 fn hand_on<K: Outlet, R: Wait>(
     rt: &R,
+    back: &Returns,
     receiver: &Receiver,
     pass: &mut Pass<Message, Log>,
     sink: &mut K,
@@ -47,7 +49,9 @@ fn hand_on<K: Outlet, R: Wait>(
     for _ in rt.forever() {
         match take_next(rt, receiver, pass) {
             Some(Message::Data(frame)) => {
-                if sink.send_data(&frame).is_err() {
+                let sent = sink.send_data(frame.get());
+                back.give(rt, frame);
+                if sent.is_err() {
                     return Ended::SinkFault;
                 }
             }
@@ -63,8 +67,8 @@ fn hand_on<K: Outlet, R: Wait>(
     unreachable!()
 }
 
-/// Takes up to the end mark, and hands nothing on.
-fn drain<R: Wait>(rt: &R, receiver: &Receiver, pass: &mut Pass<Message, Log>)
+/// Takes up to the end mark, and hands nothing on. The memory of each frame is given back.
+fn drain<R: Wait>(rt: &R, back: &Returns, receiver: &Receiver, pass: &mut Pass<Message, Log>)
     requires seat { IsSeatAt (receives_on receiver.now) pass.old
         × (view pass.old ≡ log false true false [] (view pass.old).taken) }
     ensures seat { IsSeatAt (receives_on receiver.now) pass.new
@@ -73,8 +77,9 @@ fn drain<R: Wait>(rt: &R, receiver: &Receiver, pass: &mut Pass<Message, Log>)
 {
     for _ in rt.forever() {
         match take_next(rt, receiver, pass) {
+            Some(Message::Data(frame)) => back.give(rt, frame),
+            Some(Message::Layout(_frame)) => {}
             Some(Message::End) => return,
-            Some(_) => {}
             None => return,
         }
     }
@@ -85,6 +90,7 @@ fn drain<R: Wait>(rt: &R, receiver: &Receiver, pass: &mut Pass<Message, Log>)
 /// the end mark, so that the aligner is not held.
 pub fn send_out<K: Outlet, R: Wait>(
     rt: &R,
+    back: &Returns,
     receiver: &Receiver,
     pass: &mut Pass<Message, Log>,
     sink: &mut K,
@@ -104,9 +110,9 @@ pub fn send_out<K: Outlet, R: Wait>(
     ensures fault { result ≡ Ended.SinkFault →
         HasRisen (K.failures_of sink.old) (K.failures_of sink.new) }
 {
-    let ended = hand_on(rt, receiver, pass, sink);
+    let ended = hand_on(rt, back, receiver, pass, sink);
     if ended == Ended::SinkFault {
-        drain(rt, receiver, pass);
+        drain(rt, back, receiver, pass);
     }
     ended
 }

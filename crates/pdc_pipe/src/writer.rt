@@ -6,6 +6,7 @@ ghost use Rattle.pdc_pipe.specs.Pipe.{log};
 
 use crate::message::Message;
 use crate::pipe::{Log, Sender};
+use crate::spares::Spares;
 use crossbeam_channel::Pass;
 
 /// The aligner's end of the channel, with the pass by which it alone puts.
@@ -15,6 +16,8 @@ pub struct Writer {
     pub to: Sender,
     /// By which it puts.
     pub pass: Pass<Message, Log>,
+    /// Where it takes the frame that it writes next.
+    pub spares: Spares,
     pub ghost seated: { IsSeatAt (sends_on to) pass },
     pub ghost puts: { view pass ≡ log true false (view pass).closed (view pass).put [] },
 }

@@ -77,7 +77,7 @@ data_put : (put : List Message) → data_in (bytes_of put) ≡ length (instants_
 unfolding data_in
 data_put [] = refl
 data_put (Data frame ∷ put) =
-    omega (arith, data_append (frame.bytes.items ∷ []) (bytes_of put), one_data frame.bytes.items (put_is_data frame (is_data_frame frame.bytes.items) refl), data_put put)
+    omega (arith, data_append (frame.value.bytes.items ∷ []) (bytes_of put), one_data frame.value.bytes.items (put_is_data frame.value (is_data_frame frame.value.bytes.items) refl), data_put put)
 data_put (Layout frame ∷ put) =
     omega (arith, data_append (frame.bytes.items ∷ []) (bytes_of put), no_data frame.bytes.items (put_is_none frame (is_data_frame frame.bytes.items) refl), data_put put)
 data_put (End ∷ put) = data_put put

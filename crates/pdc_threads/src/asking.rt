@@ -6,11 +6,13 @@ ghost use Rattle.crossbeam_channel.specs.Ends.{receives_on, sends_on};
 ghost use Rattle.pdc_hub.specs.pdc_memory.Asking.{WasRefused};
 ghost use Rattle.pdc_pipe.specs.Pipe.{log};
 ghost use Rattle.pdc_pipe.specs.Writing.{IsOpen, put_by};
-ghost use Rattle.pdc_threads.specs.Wanted.{WasDenied};
+ghost use Rattle.pdc_threads.specs.Wanted.{LackedRoom, WasDenied};
 
 use pdc_hub::{make_room, with_room};
+use pdc_life::Output;
 use pdc_pipe::{Ends, channel};
 use std::alloc::{AllocError, Global};
+use std::sync::Wait;
 use std::thread::SpawnError;
 
 /// A buffer of so many bytes.
@@ -44,23 +46,25 @@ pub fn append<T: Drop>(items: &mut Vec<T>, item: T) -> Result<(), AllocError>
     Ok(())
 }
 
-/// The channel of a run.
+/// The channel of a run, and the frames that go round.
 ///
 /// # Errors
 ///
-/// [`AllocError`] where the library of channels gives none.
+/// [`AllocError`] where the library of channels gives none, or a request for the memory of a frame was refused.
 #[tactic(auto, unfolding(crate::specs::Wanted::WasDenied))]
-pub fn ring(alloc: Global) -> Result<Ends, AllocError>
+pub fn ring<R: Wait>(rt: &R, alloc: Global, output: &Output) -> Result<Ends, AllocError>
     ensures ends { IfOk result (λ ends. (receives_on ends.from ≡ sends_on ends.writer.to)
         × IsOpen ends.writer × (put_by ends.writer ≡ [])
         × (IsSeatAt (receives_on ends.from) ends.reader
         × (view ends.reader ≡ log false true false [] []))) }
-    ensures denied { OnErr result WasDenied }
+    ensures lacked { OnErr result LackedRoom }
 {
-    match channel(alloc) {
-        Ok(ends) => Ok(ends),
-        Err(error) => Err(error),
-    }
+    let ends = match channel(alloc) {
+        Ok(ends) => ends,
+        Err(error) => return Err(error),
+    };
+    ends.back.fill(rt, alloc, output)?;
+    Ok(ends)
 }
 
 /// The system was asked for a thread and gave none, as who has what it hands back for that shows.

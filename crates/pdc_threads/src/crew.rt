@@ -8,7 +8,7 @@ use crossbeam_channel::Pass;
 use pdc_aligner::{Aligner, Pace};
 use pdc_hub::{HubFault, Ledgers, Pops, Shares};
 use pdc_mark::Mark;
-use pdc_pipe::{Log, Message};
+use pdc_pipe::{Log, Message, Returns};
 use pdc_publisher::Publisher;
 
 /// What a run is given beside its hub: the shares, a source for each stream, in order, and who publishes, ticks and sends.
@@ -39,6 +39,8 @@ pub struct Manned<N: Ledgers, W: Outside> {
     pub pace: Pace,
     /// By which the sender takes.
     pub reader: Pass<Message, Log>,
+    /// Where it gives frames back.
+    pub back: Returns,
     pub sink: W::Sink,
 }
 

@@ -69,6 +69,7 @@ where
         aligner,
         pace,
         reader,
+        back,
         sink,
     } = manned;
     let hub = intake.hub;
@@ -81,7 +82,7 @@ where
             requires { IsUnread (IsSeatAt (receives_on from.now)) reader }
             ensures { HasSentOut (IsSeatAt (receives_on from.entry.now))
                 W.Sink.took W.Sink.failures_of sink result }
-        { send_owned(rt, from, reader, sink) },
+        { send_owned(rt, back, from, reader, sink) },
     ) {
         Ok(child) => child,
         Err(refused) => {
@@ -252,13 +253,14 @@ where
     let Some(inputs) = buffered(alloc, sources) else {
         return not_begun(publisher, sink, shares, pops);
     };
-    let Ok(ends) = ring(alloc) else {
+    let Ok(ends) = ring(rt, alloc, publisher.output()) else {
         return not_begun(publisher, sink, shares, pops);
     };
     let Ends {
         writer,
         from,
         reader,
+        back,
     } = ends;
     let aligner = Aligner {
         publisher,
@@ -272,6 +274,7 @@ where
         aligner,
         pace,
         reader,
+        back,
         sink,
     };
     let intake = Intake { hub, settings };

@@ -1,6 +1,7 @@
 use Rattle.std.proofs.Common.{rules, arith, ◌≡◌, ◌∙◌, ◌+◌, Bool, true, List, ap, length, subst}
 use Rattle.pdc_hub.specs.Pops.{popped_by}
 use Rattle.pdc_pipe.specs.Writing.{put_by}
+use Rattle.pdc_pipe.specs.pdc_memory.Held.{held_value}
 use Rattle.pdc_row.specs.declared.output.Output.{Output}
 use Rattle.pdc_publisher.specs.Publisher.{output_in}
 use Rattle.pdc_row.specs.RowView.{row_view}
@@ -29,7 +30,7 @@ loop-preserved g c =
       search rules,
       search rules,
       search rules,
-      omega (arith, c.loop.invariant.5, (c.next_row-step.ensures.row (search rules)).counted, one_more before after framed.frame framed.behind),
+      omega (arith, c.loop.invariant.5, (c.next_row-step.ensures.row (search rules)).counted, one_more before after (held_value framed.frame) framed.behind),
       search rules,
       λ rate every h. pop_laid g.C.Core.rules g.N.Naming.given output rate every c.next_row-step.result.step row c.loop.pops.front c.next_row-step.new.pops.front before after turned framed (c.loop.invariant.7 rate every h),
       search rules,

@@ -1,5 +1,6 @@
 use Rattle.std.proofs.Common.{rules, arith, ◌≡◌, ◌++◌, ◌∷◌, [], ◌≤◌, ◌<◌}
 use Rattle.pdc_pipe.specs.Writing.{put_by}
+use Rattle.pdc_pipe.specs.pdc_memory.Held.{held_value}
 use Rattle.pdc_publisher.specs.Publisher.{last_in}
 use Rattle.pdc_pipe.specs.declared.message.Message.TheVariants.{Data}
 use Rattle.pdc_aligner.proofs.Sequences.{rises_on, rises_put, put_data}
@@ -14,7 +15,7 @@ returns-then-not-put-clause-rising g c = λ low r.
 
 pub returns-clause-rising : goal.returns-clause-rising
 returns-clause-rising g c = λ low r.
-    let more : put_by c.put.new.writer ≡ put_by c.args.writer.now ++ Data c.publish_into.new.frame ∷ [] = search (rules, c.put.ensures.put, c.if-not-put.false) in
+    let more : put_by c.put.new.writer ≡ put_by c.args.writer.now ++ Data (held_value c.publish_into.new.frame) ∷ [] = search (rules, c.put.ensures.put, c.if-not-put.false) in
     let at : c.args.row.now.instant ≡ c.publish_into.new.frame.instant = search (rules, c.publish_into.ensures.ok) in
     let last : last_in c.publish_into.new.self ≡ c.args.row.now.instant = search (rules, c.publish_into.ensures.last) in
     let later : last_in c.args.publisher.now < c.publish_into.new.frame.instant = omega (arith, at, c.requires.above) in

@@ -11,13 +11,13 @@ loop-init g c = (search rules, search rules, subst (λ (l : List (List ℕ)). g.
 pub returns-then-is_err-clause-took : goal.returns-then-is_err-clause-took
 returns-then-is_err-clause-took g c =
     let more : (view c.take_next.new.pass).taken ≡ (view c.loop.pass).taken ++ Data c.in-Some-Data.frame ∷ [] = search rules in
-    (bytes_of (view c.loop.pass).taken, c.in-Some-Data.frame.bytes.items ∷ [], search (rules, c.send_data.ensures.err, c.if-is_err.true, c.loop.invariant.2), took_data _ _ _ more)
+    (bytes_of (view c.loop.pass).taken, c.in-Some-Data.frame.value.bytes.items ∷ [], search (rules, c.send_data-sent.ensures.err, c.if-is_err.true, c.loop.invariant.2), took_data _ _ _ more)
 
 pub loop-preserved-else-is_err : goal.loop-preserved-else-is_err
 loop-preserved-else-is_err g c =
     let more : (view c.take_next.new.pass).taken ≡ (view c.loop.pass).taken ++ Data c.in-Some-Data.frame ∷ [] = search rules in
-    let now : g.K.Sink.took c.args.sink.now c.send_data.new.self (bytes_of (view c.loop.pass).taken ++ c.in-Some-Data.frame.bytes.items ∷ []) = search (rules, c.send_data.ensures.ok, c.if-is_err.false, c.loop.invariant.2) in
-    (search rules, search rules, subst (g.K.Sink.took c.args.sink.now c.send_data.new.self) (sym (took_data _ _ _ more)) now, search rules)
+    let now : g.K.Sink.took c.args.sink.now c.send_data-sent.new.self (bytes_of (view c.loop.pass).taken ++ c.in-Some-Data.frame.value.bytes.items ∷ []) = search (rules, c.send_data-sent.ensures.ok, c.if-is_err.false, c.loop.invariant.2) in
+    (search rules, search rules, subst (g.K.Sink.took c.args.sink.now c.send_data-sent.new.self) (sym (took_data _ _ _ more)) now, search rules)
 
 pub returns-then-is_err-2-clause-took : goal.returns-then-is_err-2-clause-took
 returns-then-is_err-2-clause-took g c =

@@ -84,8 +84,8 @@ returns-clause-conducted g c =
 pub returns-in-Err-clause-conducted : goal.returns-in-Err-clause-conducted
 returns-in-Err-clause-conducted g c =
     let put = put_by c.close-closed.new.writer in
-    let same : c.in-Err.refused.value.3 ≡ c.args.manned.sink = search (rules, c.in-Err.ensures.err) in
-    let sent = c.settle-sink.ensures.handed c.in-Err.refused.value.3 c.spawn_with-sent.ensures.2 in
+    let same : c.in-Err.refused.value.4 ≡ c.args.manned.sink = search (rules, c.in-Err.ensures.err) in
+    let sent = c.settle-sink.ensures.handed c.in-Err.refused.value.4 c.spawn_with-sent.ensures.2 in
     let t = subst (λ k. HasHandedOn (g.W.Sink.Sink.took k c.settle-sink.result.0) put c.settle-sink.result.1) same sent in
     let cause : HasSinkCause c.settle-sink.result.1 (g.W.Sink.Sink.failures_of c.args.manned.sink) (g.W.Sink.Sink.failures_of c.settle-sink.result.0) = search (rules, c.spawn_with-sent.ensures.3, c.settle-sink.ensures.back) in
     let nothing : put_by c.args.manned.aligner.writer ≡ [] = c.requires.ready.begins.1 in
