@@ -34,7 +34,7 @@ struct Concentrator<C: Core + Drop> {
     streams: usize,
     output: Output,
     publisher: Publisher<ModelMark>,
-    /// What each datagram says is kept here.
+    /// What a datagram says that is no data is kept here.
     kept: KeptArrival,
     /// Each row is popped into this one,
     row: HeldBox<DueRow>,
@@ -74,17 +74,20 @@ impl<C: Core + Drop> Concentrator<C> {
         })
     }
 
-    /// Takes a datagram as the running program does: what it says is read and kept, and that arrives.
+    /// Takes a datagram as the running program does: what it says is read, and data arrives as it is lent.
     fn take(&mut self, stream: usize, bytes: &[u8]) {
         if stream >= self.streams {
             return;
         }
         let settings = self.core.settings();
-        if settings
-            .read_into(self.alloc, stream, bytes, &mut self.kept)
-            .is_ok()
-        {
-            let _ = self.core.arrive_kept(stream, &self.kept);
+        match settings.lend(self.alloc, stream, bytes, &mut self.kept) {
+            Ok(Some(data)) => {
+                let _ = self.core.arrive_lent(stream, &data);
+            }
+            Ok(None) => {
+                let _ = self.core.arrive_kept(stream, &self.kept);
+            }
+            Err(_) => {}
         }
     }
 

@@ -79,8 +79,8 @@ fn main(rt: HostRuntime) -> io::Result<ExitCode> {
         print_time(&rt, "side by side", together, taken)?;
         print_time(&rt, "on one thread", alone, taken)?;
         if let Some((reading, recording)) = run_recorded(&rt, alloc, &settings.life, &frames) {
-            print_time(&rt, "read and kept", reading, taken)?;
-            print_time(&rt, "read, kept and recorded", recording, taken)?;
+            print_time(&rt, "read", reading, taken)?;
+            print_time(&rt, "read, taken and recorded", recording, taken)?;
         }
     }
     Ok(ExitCode::SUCCESS)

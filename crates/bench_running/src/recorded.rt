@@ -1,4 +1,4 @@
-//! What a hub does for each datagram, on one thread: it is read and kept, and then, under the lock, taken by the core and recorded.
+//! What a hub does for each datagram, on one thread: it is read, and then, under the lock, taken by the core and recorded.
 ghost use Rattle.std.specs.Prelude.{◌≡◌, ◌<◌, Some, [], length};
 ghost use Rattle.pdc_life.specs.CoreKind.{given_of, OfNode};
 ghost use Rattle.pdc_node.specs.Node.{StandsFor};
@@ -20,15 +20,15 @@ use std::time::{Duration, Instant};
 /// All counts may be adopted.
 const CLEARED: [u16; MAX_PMUS] = [u16::MAX; MAX_PMUS];
 
-/// Reads and keeps each frame, and answers how many there were.
-fn keep_all(alloc: Global, settings: &Settings, frames: &Frames) -> u64 {
+/// Reads each frame, and answers how many there were.
+fn read_all(alloc: Global, settings: &Settings, frames: &Frames) -> u64 {
     let mut kept = KeptArrival::blank();
     let mut count = 0u64;
     for number in 0..=frames.count as usize {
         for (stream, list) in frames.streams.iter().enumerate() {
             if stream < settings.pmus.len() && number < list.len() {
                 let bytes = &list[number];
-                if settings.read_into(alloc, stream, bytes, &mut kept).is_ok() {
+                if settings.lend(alloc, stream, bytes, &mut kept).is_ok() {
                     count = count.saturating_add(1);
                 }
             }
@@ -37,7 +37,7 @@ fn keep_all(alloc: Global, settings: &Settings, frames: &Frames) -> u64 {
     count
 }
 
-/// Reads and keeps one frame, and takes it; false where memory runs out.
+/// Reads one frame, takes and records it; false where memory runs out.
 fn take_one<N: Naming<Settings>, R: Wait>(
     rt: &R,
     alloc: Global,
@@ -51,9 +51,9 @@ fn take_one<N: Naming<Settings>, R: Wait>(
     requires named { N.settings ≡ Some settings.now }
     requires stream { stream < length settings.now.pmus.items }
 {
-    match settings.read_into(alloc, stream, bytes, kept) {
-        Ok(()) => {
-            core.arrive(rt, front, stream, bytes, kept);
+    match settings.lend(alloc, stream, bytes, kept) {
+        Ok(lent) => {
+            core.arrive(rt, front, stream, bytes, &lent, kept);
             true
         }
         Err(_) => false,
@@ -144,7 +144,7 @@ fn open_and_record<R: Wait>(rt: &R, alloc: Global, settings: &Settings, frames: 
     )
 }
 
-/// How long it took to read and keep all frames, and to record them besides; none where memory runs out or the clock cannot be read.
+/// How long it took to read all frames, and to take and record them besides; none where memory runs out or the clock cannot be read.
 pub fn run_recorded<R: Clock + Wait>(
     rt: &R,
     alloc: Global,
@@ -152,12 +152,12 @@ pub fn run_recorded<R: Clock + Wait>(
     frames: &Frames,
 ) -> Option<(Duration, Duration)> {
     let begun = Instant::now(rt).ok()?;
-    let kept = keep_all(alloc, settings, frames);
+    let read = read_all(alloc, settings, frames);
     let reading = begun.elapsed(rt).ok()?;
     let begun = Instant::now(rt).ok()?;
     let is_whole = open_and_record(rt, alloc, settings, frames);
     let recording = begun.elapsed(rt).ok()?;
-    if kept > 0 && is_whole {
+    if read > 0 && is_whole {
         Some((reading, recording))
     } else {
         None

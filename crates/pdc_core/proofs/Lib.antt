@@ -1,3 +1,2 @@
 pub mod Alike
 mod Refusing
-mod Sent

@@ -11,18 +11,17 @@ use Rattle.pdc_align.specs.pdc_life.Arrival.{Arrival, BytesRefused, Data, Layout
 use Rattle.pdc_align.specs.pdc_arrival.Claimed.{claimed_data}
 use Rattle.pdc_align.specs.pdc_arrival.Views.{stamp_view}
 use Rattle.pdc_align.specs.pdc_frame.declared.claim.Claim.{Claim}
-use Rattle.pdc_core.specs.Brings.{Brings}
 use Rattle.pdc_memory.specs.Asking.{WasRefused}
 
 abbrev pub bytes_of : Payload → List ℕ
 bytes_of (payload.Short bytes) = bytes
-bytes_of (payload.Long own) = own.bytes.items
+bytes_of (payload.Long own) = own.items
 
 -- these bytes can be written over its own with no memory: over those in place where there is room for them there, over those on the heap
 -- where they are as many
 abbrev pub can_hold : Payload → List ℕ → Bool
 can_hold (payload.Short own) bytes = nat_le (length bytes) SHORT_PAYLOAD
-can_hold (payload.Long own) bytes = length bytes == length own.bytes.items
+can_hold (payload.Long own) bytes = length bytes == length own.items
 
 abbrev pub kept_part : KeptSection → ℕ × SectionFields
 kept_part kept = (kept.column, fields_of_section kept.section)
@@ -42,10 +41,6 @@ abbrev pub takes_no_memory : Arrival → Bool
 takes_no_memory (BytesRefused refusal) = true
 takes_no_memory (Data instant quality payload) = nat_le (length payload) 214
 takes_no_memory (Layout stamp sections) = false
-
--- where data is kept, these bytes are the frame in which its payload came
-abbrev pub CameIn : KeptArrivalData → List ℕ → Type 0
-CameIn kept frame = (instant quality : ℕ) (payload : List ℕ) → taken_view kept ≡ Data instant quality payload → Brings frame payload
 
 -- for how many bytes, or sections, a copy of it asks
 abbrev pub wanted_of : Arrival → ℕ

@@ -5,4 +5,5 @@ pub mod Fits
 pub mod Said
 pub mod Step
 pub mod KeptArrival
+pub mod Lent
 pub use Rattle.pdc_memory.specs as pdc_memory

@@ -8,6 +8,7 @@ ghost use Rattle.pdc_align.specs.pdc_arrival.declared.counts.Counts.{Counts as C
 ghost use Rattle.pdc_core.specs.Alike.{AreAlike};
 ghost use Rattle.pdc_core.specs.Core.{Hears};
 ghost use Rattle.pdc_core.specs.KeptArrival.{taken_view};
+ghost use Rattle.pdc_core.specs.Lent.{lent_view};
 ghost use Rattle.pdc_align.specs.Popped.{popped_after};
 ghost use Rattle.pdc_core.specs.Step.{IsOf, Tells, answers, counted_by, is_allowed, popped_by};
 ghost use Rattle.pdc_core.specs.Step.{rises_by};
@@ -24,7 +25,7 @@ ghost use Rattle.pdc_align.specs.pdc_row.RowView.{RowView, row_instants, row_vie
 ghost use Rattle.pdc_align.specs.pdc_table.KeptRow.{popped_into};
 ghost use Rattle.pdc_align.specs.pdc_frame.declared.tag_limits.TheConstants.{SECONDS};
 
-use crate::{CoreStep, KeptArrival, Reads, Reply};
+use crate::{CoreStep, KeptArrival, LentData, Reads, Reply};
 use pdc_align::{Arrival, Buffer, Counts, DueRow, MAX_PMUS, Outcome, Ticked};
 use pdc_memory::HeldBox;
 use std::alloc::AllocError;
@@ -89,6 +90,25 @@ pub trait Core {
         ensures memory { memory self.new ≡ memory self.old }
     {
         let arrival = taken.view();
+        self.arrive(stream, &arrival)
+    }
+
+    /// Answers data that is lent, as it does what arrived.
+    fn arrive_lent(&mut self, stream: usize, data: &LentData<'_>) -> Outcome
+        requires { Self.Settings.fits (settings_of self.old) stream (lent_view data.now) ≡ true }
+        ensures answer { (g : Given) (E : List Entry) → stands_for self.old g E →
+            result ≡ (rules g E stream (lent_view data.now)).outcome }
+        ensures stands { (g : Given) (E : List Entry) (bytes : List ℕ) →
+            Self.Settings.says (settings_of self.old) stream bytes (lent_view data.now) →
+            stands_for self.old g E →
+            stands_for self.new g (answered rules g E
+            (ToArrive stream bytes (lent_view data.now)) ∷ E) }
+        ensures counts { counts_of self.new ≡ after_answer result (counts_of self.old) }
+        ensures popped { popped_of self.new ≡ popped_of self.old }
+        ensures settings { settings_of self.new ≡ settings_of self.old }
+        ensures memory { memory self.new ≡ memory self.old }
+    {
+        let arrival = data.view();
         self.arrive(stream, &arrival)
     }
 

@@ -1,18 +1,18 @@
 //! What arrived, with its bytes kept: it can be handed on where what was read would not live.
 ghost use Rattle.std.specs.Prelude.{◌≡◌, ◌≤◌, [], ◌∷◌, IfOk, IsOk, None, OnErr, OnOk, false, length, map, true};
-ghost use Rattle.pdc_core.specs.KeptArrival.{CameIn, kept_part, taken_view, takes_no_memory};
-ghost use Rattle.pdc_core.specs.KeptArrival.{data_view, wanted_of};
-ghost use Rattle.pdc_align.specs.pdc_arrival.Claimed.{claimed_view};
+ghost use Rattle.pdc_core.specs.KeptArrival.{data_view, kept_part, taken_view, takes_no_memory};
+ghost use Rattle.pdc_core.specs.KeptArrival.{wanted_of};
+ghost use Rattle.pdc_core.specs.Lent.{can_take, has_room, lent_view};
 ghost use Rattle.pdc_memory.specs.Asking.{WasRefused};
 ghost use Rattle.pdc_align.specs.pdc_arrival.Views.{arrival_view, section_part};
 ghost use Rattle.pdc_align.specs.pdc_life.Arrival.{Data, Layout};
 ghost use Rattle.pdc_align.specs.pdc_cfg.Section.{fields_of_view};
 ghost use Rattle.pdc_align.specs.pdc_life.Views.{arrival_view as reading_view};
 
-use crate::{KeptLayout, KeptSection, Payload, SHORT_PAYLOAD, ShortPayload};
+use crate::{KeptLayout, KeptSection, LentData, Payload, SHORT_PAYLOAD, ShortPayload};
 use arrayvec::ArrayVec;
 use pdc_align::{
-    Arrival, Claim, ClaimedData, ColumnSection, FrameFault, MAX_PMUS, Reading, Refusal, SectionView,
+    Arrival, Claim, ColumnSection, FrameFault, MAX_PMUS, Reading, Refusal, SectionView,
 };
 use pdc_memory::Held;
 use std::alloc::{AllocError, Global};
@@ -119,6 +119,15 @@ fn data_view<'a>(instant: u64, quality: u8, payload: &'a [u8], claim: &Option<Cl
     }
 }
 
+impl LentData<'_> {
+    /// What arrived.
+    pub fn view(&self) -> Arrival<'_>
+        ensures { arrival_view result ≡ lent_view self.now }
+    {
+        data_view(self.instant, self.quality, self.payload, &self.claim)
+    }
+}
+
 impl KeptArrival {
     /// A copy of what arrived.
     ///
@@ -217,22 +226,15 @@ impl KeptArrival {
             IsOk result }
         ensures err { OnErr result (self.new ≡ self.old) }
     {
-        if let KeptArrival::Data {
-            instant: own_instant,
-            quality: own_quality,
-            payload: own,
-            claim,
-        } = self
-        {
-            if own.set(payload) {
-                *own_instant = instant;
-                *own_quality = quality;
-                // Nearly always it is none: then its bytes are not written again.
-                if claim.is_some() {
-                    *claim = None;
-                }
-                return Ok(());
-            }
+        let data = LentData {
+            instant,
+            quality,
+            payload,
+            frame: None,
+            claim: None,
+        };
+        if self.take(&data) {
+            return Ok(());
         }
         // Nothing can be written over, which is seldom: a call of its own. Data has no column.
         let reading = Reading::Data {
@@ -243,10 +245,12 @@ impl KeptArrival {
         self.set_reading(alloc, 0, &reading)
     }
 
-    /// Makes this data whose check word is not computed yet, where it can be written over what is here. Whether it can; else it stays as it was.
+    /// Makes this a copy of data that is lent, where it can be written over what is here with no memory. Whether it did; else it stays as it
+    /// was.
     #[inline(always)]
-    pub fn set_claimed(&mut self, claimed: &ClaimedData<'_>) -> bool
-        ensures same { result ≡ true → taken_view self.new ≡ claimed_view claimed.now }
+    pub fn take(&mut self, data: &LentData<'_>) -> bool
+        ensures when { result ≡ can_take self.old data.now.payload.now }
+        ensures same { result ≡ true → taken_view self.new ≡ lent_view data.now }
         ensures none { result ≡ false → self.new ≡ self.old }
     {
         if let KeptArrival::Data {
@@ -256,28 +260,106 @@ impl KeptArrival {
             claim,
         } = self
         {
-            if payload.set(claimed.payload) {
-                *instant = claimed.instant;
-                *quality = claimed.quality;
-                *claim = Some(claimed.claim);
+            if payload.set(data.payload) {
+                *instant = data.instant;
+                *quality = data.quality;
+                *claim = data.claim;
                 return true;
             }
         }
         false
     }
 
-    /// Keeps with data the front and the check word of the frame in which it came: so the check word follows of what goes out for it. It shows
-    /// what it showed.
-    #[inline(always)]
-    pub fn know_frame(&mut self, frame: &[u8])
-        requires { CameIn self.old frame.now }
-        ensures { taken_view self.new ≡ taken_view self.old }
+    /// A copy of data that is lent, in place: of at most 214 bytes.
+    #[inline(never)]
+    pub fn of_short(data: &LentData<'_>) -> KeptArrival
+        requires { length data.now.payload.now ≤ SHORT_PAYLOAD }
+        ensures { taken_view result ≡ lent_view data.now }
     {
-        if let KeptArrival::Data { payload, claim, .. } = self {
-            if claim.is_none() {
-                payload.know_frame(frame);
-            }
+        KeptArrival::Data {
+            instant: data.instant,
+            quality: data.quality,
+            payload: Payload::in_place(data.payload),
+            claim: data.claim,
         }
+    }
+
+    /// Makes this a copy of data that is lent.
+    ///
+    /// # Errors
+    ///
+    /// [`AllocError`] where the payload has more than 214 bytes, and there is no memory. Then it stays as it was.
+    pub fn set_lent(&mut self, alloc: Global, data: &LentData<'_>) -> Result<(), AllocError>
+        ensures same { OnOk result (taken_view self.new ≡ lent_view data.now) }
+        ensures refused { OnErr result (WasRefused (length data.now.payload.now)) }
+        ensures in_place { length data.now.payload.now ≤ SHORT_PAYLOAD → IsOk result }
+        ensures err { OnErr result (self.new ≡ self.old) }
+    {
+        if self.take(data) {
+            return Ok(());
+        }
+        *self = KeptArrival::Data {
+            instant: data.instant,
+            quality: data.quality,
+            payload: Payload::of(alloc, data.payload)?,
+            claim: data.claim,
+        };
+        Ok(())
+    }
+
+    /// Whether a copy of data with this payload takes no memory: of at most 214 bytes it lies in place, and others may be written over what
+    /// is here.
+    #[inline(always)]
+    pub fn has_room(&self, payload: &[u8]) -> bool
+        ensures { result ≡ has_room self.now payload.now }
+    {
+        payload.len() <= SHORT_PAYLOAD || self.can_take(payload)
+    }
+
+    /// Whether data with this payload can be written over what is here.
+    #[inline(always)]
+    fn can_take(&self, payload: &[u8]) -> bool
+        ensures { result ≡ can_take self.now payload.now }
+    {
+        match self {
+            KeptArrival::Data { payload: own, .. } => own.can_hold(payload),
+            _ => false,
+        }
+    }
+
+    /// Makes room here for a copy of data with this payload.
+    ///
+    /// # Errors
+    ///
+    /// [`AllocError`] where the payload has more than 214 bytes, and there is no memory. Then it stays as it was.
+    #[inline(always)]
+    pub fn make_room(&mut self, alloc: Global, payload: &[u8]) -> Result<(), AllocError>
+        ensures room { OnOk result (has_room self.new payload.now ≡ true) }
+        ensures refused { OnErr result (WasRefused (length payload.now)) }
+        ensures in_place { length payload.now ≤ SHORT_PAYLOAD → IsOk result }
+        ensures err { OnErr result (self.new ≡ self.old) }
+    {
+        if self.has_room(payload) {
+            return Ok(());
+        }
+        self.take_room(alloc, payload)
+    }
+
+    /// The same where there is none yet, which is seldom: a copy is as long.
+    #[inline(never)]
+    fn take_room(&mut self, alloc: Global, payload: &[u8]) -> Result<(), AllocError>
+        ensures room { OnOk result (has_room self.new payload.now ≡ true) }
+        ensures refused { OnErr result (WasRefused (length payload.now)) }
+        ensures in_place { length payload.now ≤ SHORT_PAYLOAD → IsOk result }
+        ensures err { OnErr result (self.new ≡ self.old) }
+    {
+        *self = KeptArrival::Data {
+            instant: 0,
+            quality: 0,
+            payload: Payload::of(alloc, payload)?,
+            claim: None,
+        };
+        Ok(())
     }
 
     /// Makes this a copy of what is read of a PMU, whose configuration is of this column.

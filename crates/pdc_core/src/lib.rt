@@ -11,7 +11,7 @@
 mod core_trait;
 mod kept_arrival;
 mod kept_layout;
-mod long_payload;
+mod lent_data;
 mod opens;
 mod payload;
 mod reads;
@@ -20,7 +20,7 @@ mod step;
 pub use core_trait::Core;
 pub use kept_arrival::KeptArrival;
 pub use kept_layout::{KeptLayout, KeptSection};
-pub use long_payload::LongPayload;
+pub use lent_data::LentData;
 pub use opens::Opens;
 pub use payload::{Payload, SHORT_PAYLOAD, ShortPayload};
 pub use pdc_align::{Counts, Ticked};

@@ -1,15 +1,11 @@
 //! The payload of data that is kept.
-ghost use Rattle.std.specs.Prelude.{◌≡◌, ◌≤◌, ◌++◌, [], IfOk, IsOk, OnErr, drop, false, length};
-ghost use Rattle.std.specs.Prelude.{true};
-ghost use Rattle.std.specs.Option.{ForSome};
-ghost use Rattle.pdc_align.specs.pdc_frame.CheckWord.{check_word_of};
+ghost use Rattle.std.specs.Prelude.{◌≡◌, ◌≤◌, [], IfOk, IsOk, OnErr, false, length, true};
 ghost use Rattle.pdc_memory.specs.Asking.{WasRefused};
-ghost use Rattle.pdc_core.specs.Brings.{Brings};
 ghost use Rattle.pdc_core.specs.KeptArrival.{bytes_of, can_hold};
 ghost use Rattle.pdc_core.specs.declared.payload.TheConstants.{SHORT_PAYLOAD};
 
-use crate::LongPayload;
-use pdc_align::{CheckedFront, KnownFront, copy_block, front_of};
+use pdc_align::copy_block;
+use pdc_memory::Held;
 use std::alloc::{AllocError, Global};
 use std::fmt;
 use std::fmt::{Debug, Formatter};
@@ -18,31 +14,22 @@ use std::marker::Model;
 /// The most bytes of a PMU's data: 107 words.
 pub const SHORT_PAYLOAD: usize = 214;
 
-/// At most 214 bytes, in place. What stands behind them is left there, so that others are written over them without zeros before. Beside them
-/// are the front and the check word of the frame in which they came, if these are known.
+/// At most 214 bytes, in place. What stands behind them is left there, so that others are written over them without zeros before.
 #[derive(Drop)]
 pub struct ShortPayload {
     len: usize,
-    sent: KnownFront,
     bytes: [u8; SHORT_PAYLOAD],
 }
 
 impl Model for ShortPayload {
-    ghost use Rattle.std.specs.Prelude.{◌≡◌, ◌≤◌, ◌++◌, ℕ, List, drop, take};
-    ghost use Rattle.std.specs.Option.{ForSome};
-    ghost use Rattle.pdc_align.specs.pdc_frame.CheckWord.{check_word_of};
-    ghost use Rattle.pdc_align.specs.pdc_row.KnownFront.{known_of};
+    ghost use Rattle.std.specs.Prelude.{◌≤◌, ℕ, List, take};
     ghost use Rattle.pdc_core.specs.declared.payload.TheConstants.{SHORT_PAYLOAD};
 
     ghost Value = { List ℕ };
 
     ghost view = { λ payload. take payload.len payload.bytes };
 
-    ghost invariant = { λ payload. record {
-      fits : payload.len ≤ SHORT_PAYLOAD;
-      known : ForSome (known_of payload.sent) (λ known. known.check ≡
-          check_word_of (known.bytes ++ drop 14 (take payload.len payload.bytes)));
-    } };
+    ghost invariant = { λ payload. payload.len ≤ SHORT_PAYLOAD };
 }
 
 impl ShortPayload {
@@ -53,49 +40,18 @@ impl ShortPayload {
     {
         ShortPayload {
             len: 0,
-            sent: KnownFront::unknown(),
             bytes: [0; SHORT_PAYLOAD],
         }
     }
 
-    /// Writes these bytes over those that it has. The frame in which they came is not known then.
+    /// Writes these bytes over those that it has.
     #[inline(always)]
     pub fn set(&mut self, bytes: &[u8])
         requires { length bytes.now ≤ SHORT_PAYLOAD }
         ensures { self.new ≡ bytes.now }
     {
-        self.sent.is_known = false;
         copy_block(&mut self.bytes[..bytes.len()], bytes);
         self.len = bytes.len();
-    }
-
-    /// Writes those of the other one over those that it has, with what is known of the frame in which they came.
-    #[inline(always)]
-    pub fn set_as(&mut self, other: &ShortPayload)
-        ensures { self.new ≡ other.now }
-    {
-        let _ = &other.len;
-        self.set(other.as_slice());
-        self.sent.set(other.sent.as_ref());
-    }
-
-    /// Keeps with them the front and the check word of the frame in which they came.
-    #[inline(always)]
-    pub(crate) fn know_frame(&mut self, frame: &[u8])
-        requires { Brings frame.now self.old }
-        ensures { self.new ≡ self.old }
-    {
-        let _ = &self.len;
-        self.sent.set(front_of(frame).as_ref());
-    }
-
-    /// The front and the check word of the frame in which they came, if these are known.
-    #[inline(always)]
-    pub(crate) fn sent(&self) -> Option<&CheckedFront>
-        ensures { ForSome result (λ known. known.now.check ≡
-            check_word_of (known.now.bytes ++ drop 14 self.now)) }
-    {
-        self.sent.as_ref()
     }
 
     /// The bytes.
@@ -120,7 +76,7 @@ pub enum Payload {
     /// At most 214 bytes.
     Short(ShortPayload),
     /// More of them.
-    Long(LongPayload),
+    Long(Held<u8>),
 }
 
 impl Payload {
@@ -137,7 +93,7 @@ impl Payload {
         if bytes.len() <= SHORT_PAYLOAD {
             return Ok(Payload::in_place(bytes));
         }
-        Ok(Payload::Long(LongPayload::of(alloc, bytes)?))
+        Ok(Payload::Long(Held::copy_of(alloc, bytes)?))
     }
 
     /// A copy of at most 214 bytes, in place.
@@ -151,8 +107,19 @@ impl Payload {
         Payload::Short(short)
     }
 
-    /// Writes these bytes over those that it has, where that takes no memory: at most 214 over bytes in place, and over bytes on the heap
-    /// as many as those. Whether it did; else it stays as it was.
+    /// Whether these bytes can be written over those that it has without memory: at most 214 over bytes in place, and over bytes on the heap
+    /// as many as those.
+    #[inline(always)]
+    pub fn can_hold(&self, bytes: &[u8]) -> bool
+        ensures { result ≡ can_hold self.now bytes.now }
+    {
+        match self {
+            Payload::Short(_) => bytes.len() <= SHORT_PAYLOAD,
+            Payload::Long(own) => bytes.len() == own.len(),
+        }
+    }
+
+    /// Writes these bytes over those that it has, where that takes no memory. Whether it did; else it stays as it was.
     #[inline(always)]
     pub fn set(&mut self, bytes: &[u8]) -> bool
         ensures when { result ≡ can_hold self.old bytes.now }
@@ -167,7 +134,13 @@ impl Payload {
                 own.set(bytes);
                 true
             }
-            Payload::Long(own) => own.set(bytes),
+            Payload::Long(own) => {
+                if bytes.len() != own.len() {
+                    return false;
+                }
+                own.as_mut_slice().copy_from_slice(bytes);
+                true
+            }
         }
     }
 
@@ -178,31 +151,7 @@ impl Payload {
     {
         match self {
             Payload::Short(bytes) => bytes.as_slice(),
-            Payload::Long(own) => own.bytes.as_slice(),
-        }
-    }
-
-    /// Keeps with them the front and the check word of the frame in which they came. They stay.
-    #[inline(always)]
-    pub fn know_frame(&mut self, frame: &[u8])
-        requires { Brings frame.now (bytes_of self.old) }
-        ensures { bytes_of self.new ≡ bytes_of self.old }
-    {
-        match self {
-            Payload::Short(own) => own.know_frame(frame),
-            Payload::Long(own) => own.know_frame(frame),
-        }
-    }
-
-    /// The front and the check word of the frame in which they came, if they are known: the front ends with the first 14 bytes.
-    #[inline(always)]
-    pub fn sent(&self) -> Option<&CheckedFront>
-        ensures { ForSome result (λ known. known.now.check ≡
-            check_word_of (known.now.bytes ++ drop 14 (bytes_of self.now))) }
-    {
-        match self {
-            Payload::Short(own) => own.sent(),
-            Payload::Long(own) => own.sent(),
+            Payload::Long(own) => own.as_slice(),
         }
     }
 }

@@ -1,26 +1,20 @@
 //! Settings by which bytes are read.
-ghost use Rattle.std.specs.Prelude.{◌≡◌, ◌*◌, ◌<◌, ℕ, Bool, IfOk, IsOk, List, OnErr, OnOk, false, length, true};
+ghost use Rattle.std.specs.Prelude.{◌≡◌, ◌*◌, ◌<◌, ℕ, Bool, IfOk, IfSome, IsOk, List, OnErr, OnOk, length, true};
 ghost use Rattle.pdc_core.specs.Fits.{fits_merger, fits_node};
 ghost use Rattle.pdc_align.specs.pdc_arrival.Heard.{HearsForMerger};
-ghost use Rattle.pdc_core.specs.Brings.{Brings};
-ghost use Rattle.pdc_core.specs.KeptArrival.{CameIn, CopyWasRefused, IsMadeInPlace, taken_view};
-ghost use Rattle.pdc_core.specs.KeptArrival.{takes_no_memory};
-ghost use Rattle.pdc_memory.specs.Asking.{WasRefused};
-ghost use Rattle.pdc_align.specs.pdc_life.Arrival.{Arrival, Data};
+ghost use Rattle.pdc_core.specs.KeptArrival.{CopyWasRefused, IsMadeInPlace, taken_view};
+ghost use Rattle.pdc_core.specs.Lent.{HasRoomFor, brought_view, has_room, lent_view};
+ghost use Rattle.pdc_align.specs.pdc_life.Arrival.{Arrival};
 ghost use Rattle.pdc_align.specs.pdc_life.CoreKind.{OfMerger, OfNode, Says};
 ghost use Rattle.pdc_align.specs.pdc_arrival.Views.{arrival_view};
 ghost use Rattle.pdc_align.specs.pdc_arrival.declared.from_node.TheConstants.{NODES};
 
-use crate::KeptArrival;
+use crate::{KeptArrival, LentData};
 use pdc_align::{
     Arrival, Frame, MergerSettings, Reading, Settings, arrival_from_node, claim_from_node,
     hear_from_node, hear_from_pmu, read_from_node, read_from_pmu,
 };
 use std::alloc::{AllocError, Global};
-
-/// Up to so many bytes a frame of node B is kept before its check word is computed. Of longer ones to compare the blocks takes as long as to
-/// compute it, since that takes 128 bytes a step.
-const MAX_CLAIMED: usize = 2048;
 
 /// Settings by which the bytes of a datagram are read, whatever came before. It takes no memory.
 pub trait Reads {
@@ -41,21 +35,25 @@ pub trait Reads {
         requires { stream < streams self.now }
         ensures { says self.now stream bytes.now (arrival_view result) };
 
-    /// Writes over what is kept here what the bytes say that came for the stream with this number, with what it needs of them.
+    /// Data that the bytes say which came for the stream with this number, lent from them; what is kept here has room for a copy of it then.
+    /// Where it is none, what they say is written over what is kept, with what it needs of them.
     ///
     /// # Errors
     ///
     /// [`AllocError`] where there is no memory; [`KeptArrival::keep`] tells what takes none. What is kept stays then.
-    fn read_into(
+    fn lend<'a>(
         &self,
         alloc: Global,
         stream: usize,
-        bytes: &[u8],
+        bytes: &'a [u8],
         kept: &mut KeptArrival,
-    ) -> Result<(), AllocError>
+    ) -> Result<Option<LentData<'a>>, AllocError>
         requires { stream < streams self.now }
-        ensures says { OnOk result (says self.now stream bytes.now (taken_view kept.new)) }
-        ensures fits { OnOk result (fits self.now stream (taken_view kept.new) ≡ true) }
+        ensures says { IfOk result (λ lent. says self.now stream bytes.now
+            (brought_view lent kept.new)) }
+        ensures fits { IfOk result (λ lent. fits self.now stream (brought_view lent kept.new) ≡
+            true) }
+        ensures room { IfOk result (HasRoomFor kept.new) }
         ensures refused { OnErr result (CopyWasRefused (says self.now stream bytes.now)) }
         ensures in_place { IsMadeInPlace (says self.now stream bytes.now) (IsOk result) }
         ensures err { OnErr result (kept.new ≡ kept.old) };
@@ -77,11 +75,8 @@ pub trait Reads {
         ensures refused { OnErr result (CopyWasRefused (says self.now stream bytes.now)) }
         ensures in_place { IsMadeInPlace (says self.now stream bytes.now) (IsOk result) }
     {
-        let mut kept = KeptArrival::blank();
-        match self.read_into(alloc, stream, bytes, &mut kept) {
-            Ok(()) => Ok(kept),
-            Err(error) => Err(error),
-        }
+        let arrival = self.read(stream, bytes);
+        KeptArrival::keep(alloc, &arrival)
     }
 }
 
@@ -102,25 +97,36 @@ impl Reads for Settings {
     }
 
     #[inline(always)]
-    fn read_into(
+    fn lend<'a>(
         &self,
         alloc: Global,
         stream: usize,
-        bytes: &[u8],
+        bytes: &'a [u8],
         kept: &mut KeptArrival,
-    ) -> Result<(), AllocError> {
+    ) -> Result<Option<LentData<'a>>, AllocError> {
         match hear_from_pmu(self, stream, bytes) {
             Reading::Data {
                 instant,
                 quality,
                 payload,
-            } => kept.set_data(alloc, instant, quality, payload),
+            } => {
+                kept.make_room(alloc, payload)?;
+                Ok(Some(LentData {
+                    instant,
+                    quality,
+                    payload,
+                    frame: None,
+                    claim: None,
+                }))
+            }
             // Each of the others is made anew: so what was read of data needs no place in memory.
             Reading::BytesRefused(refusal) => {
-                kept.set_reading(alloc, stream, &Reading::BytesRefused(refusal))
+                kept.set_reading(alloc, stream, &Reading::BytesRefused(refusal))?;
+                Ok(None)
             }
             Reading::Configuration(section) => {
-                kept.set_reading(alloc, stream, &Reading::Configuration(section))
+                kept.set_reading(alloc, stream, &Reading::Configuration(section))?;
+                Ok(None)
             }
         }
     }
@@ -144,35 +150,36 @@ impl Reads for MergerSettings {
     }
 
     #[inline(always)]
-    fn read_into(
+    fn lend<'a>(
         &self,
         alloc: Global,
         stream: usize,
-        bytes: &[u8],
+        bytes: &'a [u8],
         kept: &mut KeptArrival,
-    ) -> Result<(), AllocError> {
+    ) -> Result<Option<LentData<'a>>, AllocError> {
         if stream == 0 {
-            return keep_checked(self, alloc, stream, bytes, kept);
+            return lend_checked(self, alloc, stream, bytes, kept);
         }
-        if keep_claimed(self, stream, bytes, kept) {
-            return Ok(());
+        if let Some(data) = lend_claimed(self, stream, bytes, kept) {
+            return Ok(Some(data));
         }
-        keep_checked(self, alloc, stream, bytes, kept)
+        lend_checked(self, alloc, stream, bytes, kept)
     }
 }
 
-/// What the bytes say that came from a node, kept here. Their check word is computed.
+/// What the bytes say that came from a node, lent or kept. Their check word is computed.
 #[inline(always)]
-fn keep_checked(
+fn lend_checked<'a>(
     settings: &MergerSettings,
     alloc: Global,
     stream: usize,
-    bytes: &[u8],
+    bytes: &'a [u8],
     kept: &mut KeptArrival,
-) -> Result<(), AllocError>
+) -> Result<Option<LentData<'a>>, AllocError>
     requires { stream < NODES }
-    ensures says { OnOk result (Says (OfMerger settings.now) stream bytes.now
-        (taken_view kept.new)) }
+    ensures says { IfOk result (λ lent. Says (OfMerger settings.now) stream bytes.now
+        (brought_view lent kept.new)) }
+    ensures room { IfOk result (HasRoomFor kept.new) }
     ensures refused { OnErr result (CopyWasRefused (Says (OfMerger settings.now) stream
         bytes.now)) }
     ensures in_place { IsMadeInPlace (Says (OfMerger settings.now) stream bytes.now)
@@ -184,7 +191,17 @@ fn keep_checked(
             instant,
             quality,
             payload,
-        } => keep_data(alloc, stream, instant, quality, payload, bytes, kept),
+        } => {
+            kept.make_room(alloc, payload)?;
+            Ok(Some(LentData {
+                instant,
+                quality,
+                payload,
+                // What goes out has the blocks of node A where they are present.
+                frame: if stream == 0 { Some(bytes) } else { None },
+                claim: None,
+            }))
+        }
         // Each of the others is made anew: so what was heard of data needs no place in memory.
         Reading::BytesRefused(refusal) => {
             keep_heard(
@@ -193,68 +210,41 @@ fn keep_checked(
                 stream,
                 Reading::BytesRefused(refusal),
                 kept,
-            )
+            )?;
+            Ok(None)
         }
         Reading::Configuration(frame) => {
-            keep_heard(settings, alloc, stream, Reading::Configuration(frame), kept)
+            keep_heard(settings, alloc, stream, Reading::Configuration(frame), kept)?;
+            Ok(None)
         }
     }
 }
 
-/// Data of node B, kept here, where it can be written over what is here, and its frame is not long. Its check word is not computed: mostly it
-/// follows from that of node A's frame, which brought the same blocks before. Whether it is kept.
+/// Data of node B, lent, if what is kept has room for it. Its check word is not computed: mostly it follows from that of node A's frame, which
+/// brought the same blocks before.
 #[inline(always)]
-fn keep_claimed(
+fn lend_claimed<'a>(
     settings: &MergerSettings,
     stream: usize,
-    bytes: &[u8],
-    kept: &mut KeptArrival,
-) -> bool
+    bytes: &'a [u8],
+    kept: &KeptArrival,
+) -> Option<LentData<'a>>
     requires { stream < NODES }
-    ensures says { result ≡ true →
-        Says (OfMerger settings.now) stream bytes.now (taken_view kept.new) }
-    ensures none { result ≡ false → kept.new ≡ kept.old }
+    ensures says { IfSome result (λ lent. Says (OfMerger settings.now) stream bytes.now
+        (lent_view lent)) }
+    ensures room { IfSome result (λ lent. has_room kept.now lent.payload.now ≡ true) }
 {
-    if bytes.len() > MAX_CLAIMED {
-        return false;
+    let claimed = claim_from_node(settings, stream, bytes)?;
+    if !kept.has_room(claimed.payload) {
+        return None;
     }
-    match claim_from_node(settings, stream, bytes) {
-        Some(claimed) => kept.set_claimed(&claimed),
-        None => false,
-    }
-}
-
-/// Data of a node, kept here, with what is known of the frame in which it came.
-#[inline(always)]
-fn keep_data(
-    alloc: Global,
-    stream: usize,
-    instant: u64,
-    quality: u8,
-    payload: &[u8],
-    frame: &[u8],
-    kept: &mut KeptArrival,
-) -> Result<(), AllocError>
-    requires { Brings frame.now payload.now }
-    ensures same { OnOk result (taken_view kept.new ≡ Data instant quality payload.now) }
-    ensures refused { OnErr result (WasRefused (length payload.now)) }
-    ensures in_place { takes_no_memory (Data instant quality payload.now) ≡ true → IsOk result }
-    ensures err { OnErr result (kept.new ≡ kept.old) }
-{
-    kept.set_data(alloc, instant, quality, payload)?;
-    know_first(stream, frame, kept);
-    Ok(())
-}
-
-/// Keeps with data of node A what is known of the frame in which it came: what goes out has its blocks where they are present.
-#[inline(always)]
-fn know_first(stream: usize, frame: &[u8], kept: &mut KeptArrival)
-    requires { CameIn kept.old frame.now }
-    ensures { taken_view kept.new ≡ taken_view kept.old }
-{
-    if stream == 0 {
-        kept.know_frame(frame);
-    }
+    Some(LentData {
+        instant: claimed.instant,
+        quality: claimed.quality,
+        payload: claimed.payload,
+        frame: None,
+        claim: Some(claimed.claim),
+    })
 }
 
 /// What was heard of a node, kept here. It stands apart, so that data wants no room for what a configuration says.

@@ -2,16 +2,15 @@
 use Rattle.std.proofs.Common.{◌≡◌, ℕ, ◌+◌, ◌<◌, ◌*◌, Bool, true, List, ◌∷◌, ◌++◌, [], Option, Some, refl, sym, ap, ◌∙◌, subst}
 use Rattle.std.proofs.Math.Logic.{∥∥₁_elim, ∥∥₁_map, ∥∥₁_prop}
 use Rattle.std.proofs.Props.{props}
-use Rattle.pdc_core.specs.KeptArrival.{taken_view}
+use Rattle.pdc_core.specs.Step.{IsOf, is_allowed}
 use Rattle.pdc_core.specs.declared.step.CoreStep.{CoreStep}
-use Rattle.pdc_core.specs.declared.step.CoreStep.TheVariants as step
-use Rattle.pdc_core.specs.declared.kept_arrival.KeptArrival.{KeptArrival}
 use Rattle.pdc_life.specs.Answer.{ReadStep, Rules, ToArrive}
 use Rattle.pdc_life.specs.Arrival.{Arrival}
 use Rattle.pdc_life.specs.Given.{Given}
 use Rattle.pdc_life.specs.Life.{Entry}
 use Rattle.pdc_row.specs.declared.due_row.DueRow.{DueRow}
 use Rattle.pdc_frame.specs.declared.tag_limits.TheConstants.{SECONDS}
+use Rattle.pdc_hub.specs.Kept.{IsKept, KeepsArrival}
 use Rattle.pdc_hub.specs.Replay.{Follows, Lives, Records, Sayings, WasRead}
 use Rattle.pdc_hub.proofs.Replays.{grown, here, told_in}
 
@@ -27,14 +26,19 @@ suits Says fits named stream bytes arrival now r h =
 
 -- what arrives is replayed
 pub arrived : {S : Type 0} (Says : S → Sayings) (fits : S → ℕ → Arrival → Bool) (settings : Option S) (rules : Rules) (named : Option Given)
-    (Base State After : Lives) (b : S) (log after : List ReadStep) (steps more : List CoreStep) (stream : ℕ) (bytes : List ℕ) (taken : KeptArrival)
-    → WasRead Says fits settings stream bytes (taken_view taken) → ∥ settings ≡ Some b ∥₁ → after ≡ log ++ ToArrive stream bytes (taken_view taken) ∷ [] → more ≡ steps ++ step.Arrive stream taken ∷ []
-    → (Says b stream bytes (taken_view taken) → Follows rules State After (ToArrive stream bytes (taken_view taken)))
+    (Base State After : Lives) (b : S) (log after : List ReadStep) (steps more : List CoreStep) (stream : ℕ) (bytes : List ℕ) (arrival : Arrival)
+    → WasRead Says fits settings stream bytes arrival → ∥ settings ≡ Some b ∥₁ → after ≡ log ++ ToArrive stream bytes arrival ∷ [] → KeepsArrival stream arrival steps more
+    → (Says b stream bytes arrival → Follows rules State After (ToArrive stream bytes arrival))
     → ∥ Records rules (WasRead Says fits settings) named Base State log steps ∥₁ → ∥ Records rules (WasRead Says fits settings) named Base After after more ∥₁
-arrived Says fits settings rules named Base State After b log after steps more stream bytes taken r q a e follows h =
+arrived Says fits settings rules named Base State After b log after steps more stream bytes arrival r q a k follows h =
     ∥∥₁_elim q ∥∥₁_prop (λ (y : settings ≡ Some b). ∥∥₁_map h
-    (grown rules (WasRead Says fits settings) named Base State After log after steps more (step.Arrive stream taken) (ToArrive stream bytes (taken_view taken)) a e (refl, refl) r
-    (follows (subst (λ s. Says s stream bytes (taken_view taken)) (here settings r.settings b r.are_named y) r.says))))
+    (grown rules (WasRead Says fits settings) named Base State After log after steps more k.step (ToArrive stream bytes arrival) a k.added
+    (subst (λ (s : CoreStep). IsOf s (ToArrive stream bytes arrival)) (sym k.kept.is) (refl, sym k.kept.says)) r
+    (follows (subst (λ s. Says s stream bytes arrival) (here settings r.settings b r.are_named y) r.says))))
+
+-- and what is kept of it is allowed where it fits
+pub is_allowed_kept : (fits : ℕ → Arrival → Bool) (stream : ℕ) (arrival : Arrival) (step : CoreStep) → IsKept stream arrival step → fits stream arrival ≡ true → is_allowed fits step ≡ true
+is_allowed_kept fits stream arrival step k h = subst (λ (s : CoreStep). is_allowed fits s ≡ true) (sym k.is) (subst (λ (a : Arrival). fits stream a ≡ true) (sym k.says) h)
 
 -- a row that is popped can be tagged at the rate that is named
 pub tagged : (rules : Rules) (Says : Sayings) (named : Option Given) (Base State : Lives) (log : List ReadStep) (steps : List CoreStep) (row : DueRow)

@@ -4,6 +4,7 @@ pub mod Closing
 pub mod Counted
 pub mod Cut
 pub mod Faults
+pub mod Kept
 pub mod Opened
 pub mod Pops
 pub mod Received

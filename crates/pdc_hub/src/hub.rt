@@ -1,7 +1,7 @@
 //! The lock round a core.
 ghost use Rattle.std.specs.Prelude.{◌≡◌, ◌^◌, ◌<◌, ◌≤◌, ◌⊎◌, Err, IfOk, IfSome, OnErr, OnOk, Some, []};
 ghost use Rattle.std.specs.Prelude.{false, true};
-ghost use Rattle.pdc_core.specs.KeptArrival.{taken_view};
+ghost use Rattle.pdc_core.specs.Lent.{HasRoomFor, brought_view};
 ghost use Rattle.pdc_core.specs.Step.{ticked_of};
 ghost use Rattle.pdc_life.specs.Answer.{waiting_counts};
 ghost use Rattle.pdc_life.specs.Row.{is_whole};
@@ -26,7 +26,7 @@ use crate::locked_core::LockedCore;
 use crate::naming::Naming;
 use crate::pops::{Pops, spare_row};
 use crate::shares::{Blanks, Books, Shares};
-use pdc_core::{Core, Counts, KeptArrival, Ticked};
+use pdc_core::{Core, Counts, KeptArrival, LentData, Ticked};
 use pdc_frame::Buffer;
 use pdc_life::{MAX_PMUS, Outcome};
 use pdc_log::Front;
@@ -118,7 +118,8 @@ impl<C: Core + Drop, N: Naming<C::Settings>> Hub<C, N> {
         ))
     }
 
-    /// Takes the lock. It is held for less than a microsecond, so it is tried some times before the thread sleeps.
+    /// Takes the lock. For a datagram it is held for less than a microsecond, so it is tried some times before the thread sleeps. A tick, a layout
+    /// or a base that is brought up hold it longer.
     #[inline(always)]
     fn locked<R: Wait>(&self, rt: &R) -> MutexGuard<'_, LockedCore<C, N>> {
         for _ in 0..TRIES {
@@ -129,9 +130,9 @@ impl<C: Core + Drop, N: Naming<C::Settings>> Hub<C, N> {
         self.table.lock(rt)
     }
 
-    /// Adds what arrived for a stream, and counts its answer in the caller's shares. The answer is that of the one life, behind all that the
-    /// caller had seen of it, and bears the number of the step, given under the lock: how many steps that life had. What is left of what
-    /// arrived is to be written over.
+    /// Adds data that is lent, or else what is kept, which arrived for a stream, and counts its answer in the caller's shares. The answer is that
+    /// of the one life, behind all that the caller had seen of it, and bears the number of the step, given under the lock: how many steps that
+    /// life had. What is left of what is kept is to be written over.
     ///
     /// # Errors
     ///
@@ -141,14 +142,16 @@ impl<C: Core + Drop, N: Naming<C::Settings>> Hub<C, N> {
         rt: &R,
         stream: usize,
         bytes: &[u8],
+        lent: &Option<LentData<'_>>,
         datagram: &mut KeptArrival,
         mine: &mut Shares<N>,
     ) -> Result<Numbered<Outcome>, HubFault>
         requires read { WasRead C.Settings.says C.Settings.fits N.settings stream bytes.now
-            (taken_view datagram.old) }
+            (brought_view lent.now datagram.old) }
+        requires room { HasRoomFor datagram.old lent.now }
         requires parts { AreSomeParts mine.old }
         ensures added { IfOk result (AddsArrival C.rules N.given stream bytes.now
-            (taken_view datagram.old) mine.old mine.new) }
+            (brought_view lent.now datagram.old) mine.old mine.new) }
         ensures counted { IfOk result (λ numbered. HaveCountedOne mine.old mine.new
             numbered.answer) }
         ensures most { (mine.new.taken.amount < 2 ^ 64) × (mine.new.refused.amount < 2 ^ 64) }
@@ -156,7 +159,8 @@ impl<C: Core + Drop, N: Naming<C::Settings>> Hub<C, N> {
         ensures causes { OnErr result (result ≡ Err HubFault.CountsUsedUp) }
         ensures err { OnErr result (AreAsBefore mine.old mine.new × (datagram.new ≡ datagram.old)) }
     {
-        self.locked(rt).deliver(rt, stream, bytes, datagram, mine)
+        self.locked(rt)
+            .deliver(rt, stream, bytes, lent, datagram, mine)
     }
 
     /// Ticks: the instant that is now, and for each column the count up to which a section may be adopted, which is the one that the mark

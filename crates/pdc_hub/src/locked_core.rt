@@ -1,7 +1,7 @@
 //! The value under the lock.
 ghost use Rattle.std.specs.Prelude.{◌≡◌, ◌+◌, ◌^◌, ◌<◌, ◌≤◌, ◌↔◌, Err, IfOk, IsErrOf, OnErr};
 ghost use Rattle.std.specs.Prelude.{OnOk, Some, [], false, true};
-ghost use Rattle.pdc_core.specs.KeptArrival.{taken_view};
+ghost use Rattle.pdc_core.specs.Lent.{HasRoomFor, brought_view};
 ghost use Rattle.pdc_core.specs.Step.{ticked_of};
 ghost use Rattle.pdc_hub.specs.Adding.{AddsArrival, AddsPop, AddsTick, IsLayoutBehind};
 ghost use Rattle.pdc_hub.specs.Counted.{AreAsBefore, AreSomeParts, HasSameAmounts, HasSameParts};
@@ -22,7 +22,7 @@ use crate::pops::Pops;
 use crate::replayed::Replayed;
 use crate::shares::{Books, Shares};
 use crate::totals::Totals;
-use pdc_core::{Core, Counts, KeptArrival, Ticked};
+use pdc_core::{Core, Counts, KeptArrival, LentData, Ticked};
 use pdc_frame::Buffer;
 use pdc_life::{MAX_PMUS, Outcome};
 use pdc_log::Log;
@@ -109,7 +109,8 @@ impl<C: Core + Drop, N: Naming<C::Settings>> LockedCore<C, N> {
         })
     }
 
-    /// Adds what arrived for a stream, and counts its answer in the caller's shares. What is left of it is to be written over.
+    /// Adds data that is lent, or else what is kept, which arrived for a stream, and counts its answer in the caller's shares. What is left of what
+    /// is kept is to be written over.
     ///
     /// # Errors
     ///
@@ -119,15 +120,17 @@ impl<C: Core + Drop, N: Naming<C::Settings>> LockedCore<C, N> {
         rt: &R,
         stream: usize,
         bytes: &[u8],
+        lent: &Option<LentData<'_>>,
         datagram: &mut KeptArrival,
         mine: &mut Shares<N>,
     ) -> Result<Numbered<Outcome>, HubFault>
         requires read { WasRead C.Settings.says C.Settings.fits N.settings stream bytes.now
-            (taken_view datagram.old) }
+            (brought_view lent.now datagram.old) }
+        requires room { HasRoomFor datagram.old lent.now }
         requires parts { AreSomeParts mine.old }
         // It is of the one life of the log, behind what the caller has seen of it, and is answered as that is.
         ensures added { IfOk result (AddsArrival C.rules N.given stream bytes.now
-            (taken_view datagram.old) mine.old mine.new) }
+            (brought_view lent.now datagram.old) mine.old mine.new) }
         // The shares rise by what is counted, stay below 2^64, and keep their parts.
         ensures counted { IfOk result (λ numbered. HaveCountedOne mine.old mine.new
             numbered.answer) }
@@ -144,7 +147,7 @@ impl<C: Core + Drop, N: Naming<C::Settings>> LockedCore<C, N> {
         if self.totals.are_used_up() {
             return Err(HubFault::CountsUsedUp);
         }
-        Ok(self.add(rt, stream, bytes, datagram, mine))
+        Ok(self.add(rt, stream, bytes, lent, datagram, mine))
     }
 
     /// The caller's shares count no more than the core did.
@@ -172,16 +175,18 @@ impl<C: Core + Drop, N: Naming<C::Settings>> LockedCore<C, N> {
         rt: &R,
         stream: usize,
         bytes: &[u8],
+        lent: &Option<LentData<'_>>,
         datagram: &mut KeptArrival,
         mine: &mut Shares<N>,
     ) -> Numbered<Outcome>
         requires read { WasRead C.Settings.says C.Settings.fits N.settings stream bytes.now
-            (taken_view datagram.old) }
+            (brought_view lent.now datagram.old) }
+        requires room { HasRoomFor datagram.old lent.now }
         requires parts { AreSomeParts mine.old }
         requires free { is_used_up self.old.taken.total self.old.refused.total
             self.old.configured.total ≡ false }
         ensures added { AddsArrival C.rules N.given stream bytes.now
-            (taken_view datagram.old) mine.old mine.new result }
+            (brought_view lent.now datagram.old) mine.old mine.new result }
         ensures counted { HaveCountedOne mine.old mine.new result.answer }
         ensures parts { HasSameParts mine.old mine.new }
     {
@@ -194,7 +199,7 @@ impl<C: Core + Drop, N: Naming<C::Settings>> LockedCore<C, N> {
             ..
         } = self;
         let step = core.step();
-        let outcome = core.arrive(rt, &mut mine.front, stream, bytes, datagram);
+        let outcome = core.arrive(rt, &mut mine.front, stream, bytes, lent, datagram);
         count(outcome, taken, refused, configured, mine);
         totals.count(outcome);
         Numbered {

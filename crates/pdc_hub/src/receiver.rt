@@ -40,7 +40,7 @@ pub struct Received<'h, N: Ledgers> {
     pub ghost same: { (shares.taken.amount ≡ taken) × (shares.refused.amount ≡ refused) },
 }
 
-/// Reads a datagram, outside the lock, into what is kept here, and delivers it.
+/// Reads a datagram, outside the lock, and delivers it: data as it is lent, and all else as it is kept here.
 fn hand_in<C: Core + Drop, N: Naming<C::Settings>, R: Wait>(
     rt: &R,
     alloc: Global,
@@ -63,14 +63,14 @@ fn hand_in<C: Core + Drop, N: Naming<C::Settings>, R: Wait>(
     ensures causes { IfErr result IsOfDelivery }
     ensures err { OnErr result (AreAsBefore shares.old shares.new) }
 {
-    match intake.settings.read_into(alloc, stream, bytes, kept) {
-        Ok(()) => intake.hub.deliver(rt, stream, bytes, kept, shares),
+    match intake.settings.lend(alloc, stream, bytes, kept) {
+        Ok(lent) => intake.hub.deliver(rt, stream, bytes, &lent, kept, shares),
         Err(_) => Err(HubFault::NoMemory),
     }
 }
 
-/// Reads a source to its end, or to the first idle turn after the close, and delivers each datagram whole, for the stream. What is read is
-/// read, checked and kept outside the lock.
+/// Reads a source to its end, or to the first idle turn after the close, and delivers each datagram whole, for the stream. It is read and
+/// checked outside the lock, but for data of node B, whose check word mostly follows from what node A sent.
 pub fn receive<'h, C: Core + Drop, N: Naming<C::Settings>, S: Source, R: Wait>(
     rt: &R,
     alloc: Global,

@@ -3,12 +3,12 @@ ghost use Rattle.std.specs.Prelude.{◌≡◌, ◌+◌, ◌≤◌, ◌<◌, ◌�
 ghost use Rattle.std.specs.Prelude.{false, length, true};
 ghost use Rattle.std.specs.List.{list_all};
 ghost use Rattle.pdc_core.specs.Step.{after_answer, is_allowed, ticked_of};
-ghost use Rattle.pdc_core.specs.KeptArrival.{taken_view};
-ghost use Rattle.pdc_core.specs.declared.kept_arrival.KeptArrival.{KeptArrival as KeptArrivalData};
+ghost use Rattle.pdc_core.specs.Lent.{HasRoomFor, brought_view};
 ghost use Rattle.pdc_core.specs.declared.step.CoreStep.TheVariants as step;
 ghost use Rattle.pdc_life.specs.Answer.{ToArrive, ToPop, ToTick, pop_answer, tick_answer};
 ghost use Rattle.pdc_life.specs.Given.{Given};
 ghost use Rattle.pdc_life.specs.Life.{Entry, changes};
+ghost use Rattle.pdc_hub.specs.Kept.{KeepsArrival};
 ghost use Rattle.pdc_hub.specs.Opened.{AreOpened};
 ghost use Rattle.pdc_hub.specs.Pops.{CanBeTagged, IsPop};
 ghost use Rattle.pdc_hub.specs.Replay.{Follows, HasLogged, Records, WasRead, since};
@@ -16,7 +16,7 @@ ghost use Rattle.pdc_memory.specs.Asking.{WasRefused};
 
 use crate::naming::Naming;
 use crate::steps::Steps;
-use pdc_core::{Core, CoreStep, KeptArrival, Ticked};
+use pdc_core::{Core, CoreStep, KeptArrival, LentData, Ticked};
 use pdc_life::{MAX_PMUS, Outcome};
 use pdc_log::{Add, Arriving, Front, Log, Popping, Ticking};
 use pdc_memory::HeldBox;
@@ -104,31 +104,33 @@ impl<C: Core + Drop, N: Naming<C::Settings>> Replayed<C, N> {
         events.clear();
     }
 
-    /// Answers what arrived for a stream, and keeps the step. What is left of what arrived is to be written over. Where the list is full, the base
-    /// is brought up first.
+    /// Answers data that is lent, or else what is kept, which arrived for a stream, and keeps the step. What is left of what is kept is to be
+    /// written over. Where the list is full, the base is brought up first.
     pub fn arrive<R: Wait>(
         &mut self,
         rt: &R,
         front: &mut Front<N>,
         stream: usize,
         bytes: &[u8],
+        lent: &Option<LentData<'_>>,
         taken: &mut KeptArrival,
     ) -> Outcome
         requires read { WasRead C.Settings.says C.Settings.fits N.settings stream bytes.now
-            (taken_view taken.old) }
+            (brought_view lent.now taken.old) }
+        requires room { HasRoomFor taken.old lent.now }
         ensures answer { (g : Given) (E : List Entry) → C.stands_for self.old.state g E →
-            result ≡ (C.rules g E stream (taken_view taken.old)).outcome }
+            result ≡ (C.rules g E stream (brought_view lent.now taken.old)).outcome }
         ensures stands { C.Settings.says (C.settings_of self.old.state) stream bytes.now
-            (taken_view taken.old) →
+            (brought_view lent.now taken.old) →
             Follows C.rules (C.stands_for self.old.state) (C.stands_for self.new.state)
-            (ToArrive stream bytes.now (taken_view taken.old)) }
-        ensures logged { HasLogged (ToArrive stream bytes.now (taken_view taken.old))
+            (ToArrive stream bytes.now (brought_view lent.now taken.old)) }
+        ensures logged { HasLogged (ToArrive stream bytes.now (brought_view lent.now taken.old))
             self.old.log.seen.log self.new.log.seen.log front.old front.new }
         ensures counts { C.counts_of self.new.state ≡
             after_answer result (C.counts_of self.old.state) }
         ensures popped { C.popped_of self.new.state ≡ C.popped_of self.old.state }
-        ensures event { self.new.events.items ≡ since self.old.limit self.old.events.items ++
-            step.Arrive stream taken.old ∷ [] }
+        ensures event { KeepsArrival stream (brought_view lent.now taken.old)
+            (since self.old.limit self.old.events.items) self.new.events.items }
         ensures limit { self.new.limit ≡ self.old.limit }
     {
         self.bring_up();
@@ -138,16 +140,17 @@ impl<C: Core + Drop, N: Naming<C::Settings>> Replayed<C, N> {
             state,
             ..
         } = self;
-        log.add::<N, R, Arriving<'_>, Add>(
+        log.add::<N, R, Arriving<'_, '_>, Add>(
             rt,
             front,
             &Arriving {
                 stream,
                 bytes,
+                lent,
                 taken,
             },
         );
-        kept(events, state, stream, taken)
+        kept(events, state, stream, lent, taken)
     }
 
     /// Ticks, and keeps the step. Where the list is full, the base is brought up first.
@@ -224,60 +227,60 @@ impl<C: Core + Drop, N: Naming<C::Settings>> Replayed<C, N> {
     }
 }
 
-/// Keeps what arrived as the last step, and answers it where it lies then.
+/// Answers what arrived, and keeps it as the last step.
 #[inline(always)]
 fn kept<C: Core>(
     events: &mut Steps,
     state: &mut C,
     stream: usize,
+    lent: &Option<LentData<'_>>,
     taken: &mut KeptArrival,
 ) -> Outcome
-    requires room { length events.old.items < events.old.capacity }
-    requires fits { C.Settings.fits (C.settings_of state.old) stream (taken_view taken.old) ≡ true }
+    requires space { length events.old.items < events.old.capacity }
+    requires room { HasRoomFor taken.old lent.now }
+    requires fits { C.Settings.fits (C.settings_of state.old) stream
+        (brought_view lent.now taken.old) ≡ true }
     ensures answer { (g : Given) (E : List Entry) → C.stands_for state.old g E →
-        result ≡ (C.rules g E stream (taken_view taken.old)).outcome }
+        result ≡ (C.rules g E stream (brought_view lent.now taken.old)).outcome }
     ensures stands { (bytes : List ℕ) → C.Settings.says (C.settings_of state.old) stream bytes
-        (taken_view taken.old) →
+        (brought_view lent.now taken.old) →
         Follows C.rules (C.stands_for state.old) (C.stands_for state.new)
-        (ToArrive stream bytes (taken_view taken.old)) }
+        (ToArrive stream bytes (brought_view lent.now taken.old)) }
     ensures counts { C.counts_of state.new ≡ after_answer result (C.counts_of state.old) }
     ensures popped { C.popped_of state.new ≡ C.popped_of state.old }
     ensures settings { C.settings_of state.new ≡ C.settings_of state.old }
-    ensures event { events.new.items ≡ events.old.items ++ step.Arrive stream taken.old ∷ [] }
+    ensures event { KeepsArrival stream (brought_view lent.now taken.old) events.old.items
+        events.new.items }
     ensures len { length events.new.items ≡ length events.old.items + 1 }
     ensures capacity { events.new.capacity ≡ events.old.capacity }
 {
-    let place = events.len();
-    events.arrive(stream, taken);
-    let event = events.item(place);
-    answered(state, stream, arrival_of(event))
+    let outcome = answered(state, stream, lent, taken);
+    events.arrive(stream, lent, taken);
+    outcome
 }
 
-/// What a step keeps by which something arrived.
+/// Answers data that is lent, or else what is kept.
 #[inline(always)]
-fn arrival_of(event: &CoreStep) -> &KeptArrival
-    requires { (stream : ℕ) × (taken : KeptArrivalData) × (event.now ≡ step.Arrive stream taken) }
-    ensures { (stream : ℕ) (taken : KeptArrivalData) → event.now ≡ step.Arrive stream taken →
-        result.now ≡ taken }
-{
-    match event {
-        CoreStep::Arrive { taken, .. } => taken,
-        _ => unreachable!(),
-    }
-}
-
-/// Answers what was kept.
-fn answered<C: Core>(state: &mut C, stream: usize, taken: &KeptArrival) -> Outcome
-    requires { C.Settings.fits (C.settings_of state.old) stream (taken_view taken.now) ≡ true }
+fn answered<C: Core>(
+    state: &mut C,
+    stream: usize,
+    lent: &Option<LentData<'_>>,
+    taken: &KeptArrival,
+) -> Outcome
+    requires { C.Settings.fits (C.settings_of state.old) stream (brought_view lent.now taken.now) ≡
+        true }
     ensures answer { (g : Given) (E : List Entry) → C.stands_for state.old g E →
-        result ≡ (C.rules g E stream (taken_view taken.now)).outcome }
+        result ≡ (C.rules g E stream (brought_view lent.now taken.now)).outcome }
     ensures stands { (bytes : List ℕ) → C.Settings.says (C.settings_of state.old) stream bytes
-        (taken_view taken.now) →
+        (brought_view lent.now taken.now) →
         Follows C.rules (C.stands_for state.old) (C.stands_for state.new)
-        (ToArrive stream bytes (taken_view taken.now)) }
+        (ToArrive stream bytes (brought_view lent.now taken.now)) }
     ensures counts { C.counts_of state.new ≡ after_answer result (C.counts_of state.old) }
     ensures popped { C.popped_of state.new ≡ C.popped_of state.old }
     ensures settings { C.settings_of state.new ≡ C.settings_of state.old }
 {
-    state.arrive_kept(stream, taken)
+    match lent {
+        Some(data) => state.arrive_lent(stream, data),
+        None => state.arrive_kept(stream, taken),
+    }
 }

@@ -1,19 +1,20 @@
 //! The steps since the base, in places that are kept.
 ghost use Rattle.std.specs.Prelude.{◌≡◌, ◌+◌, ◌<◌, ◌++◌, ◌∷◌, [], IfOk, OnErr, false, length};
 ghost use Rattle.std.specs.Prelude.{slice_index_or, true};
-ghost use Rattle.pdc_core.specs.declared.payload.Payload.TheVariants as payload;
+ghost use Rattle.pdc_core.specs.KeptArrival.{taken_view};
+ghost use Rattle.pdc_core.specs.Lent.{HasRoomFor, brought_view, has_room, lent_view};
 ghost use Rattle.pdc_core.specs.declared.step.CoreStep.TheVariants as step;
+ghost use Rattle.pdc_hub.specs.Kept.{IsKept, KeepsArrival};
 ghost use Rattle.pdc_memory.specs.Asking.{WasRefused};
 ghost use Rattle.pdc_memory.specs.Held.{held_items};
 
-use pdc_core::{CoreStep, KeptArrival, Payload, ShortPayload};
+use pdc_core::{CoreStep, KeptArrival, LentData, SHORT_PAYLOAD};
 use pdc_memory::Held;
 use std::alloc::{AllocError, Global};
 use std::marker::Model;
 use std::mem;
 
-/// Steps, with room for so many. Where they are cleared their places stay, and are written over: of data as many bytes as there are, and what lies
-/// on the heap changes places with what lay there.
+/// Steps, with room for so many. Where they are cleared their places stay, and data is written over that of one: as many bytes as there are.
 #[derive(Drop)]
 pub struct Steps {
     /// The places that were written so far.
@@ -88,102 +89,86 @@ impl Steps {
         }
     }
 
-    /// Appends that this arrived for a stream, for which there is room. What is left of it is to be written over.
+    /// Appends that data which is lent arrived for a stream, or else what is kept, for which there is room. What is left of that is to be written
+    /// over. It takes no memory: where data cannot be written over what lies at its place, what is kept has room for it.
     #[inline(always)]
-    pub fn arrive(&mut self, stream: usize, taken: &mut KeptArrival)
-        requires { length self.old.items < self.old.capacity }
-        ensures items { self.new.items ≡ self.old.items ++ step.Arrive stream taken.old ∷ [] }
+    pub fn arrive(&mut self, stream: usize, lent: &Option<LentData<'_>>, taken: &mut KeptArrival)
+        requires space { length self.old.items < self.old.capacity }
+        requires room { HasRoomFor taken.old lent.now }
+        ensures items { KeepsArrival stream (brought_view lent.now taken.old) self.old.items
+            self.new.items }
         ensures len { length self.new.items ≡ length self.old.items + 1 }
         ensures capacity { self.new.capacity ≡ self.old.capacity }
     {
         if self.count < self.places.len() {
-            write_over(self.places.item_mut(self.count), stream, taken);
+            write_over(self.places.item_mut(self.count), stream, lent, taken);
             self.count += 1;
         } else {
-            self.places.push(arrived(stream, taken));
+            self.places.push(arrived(stream, lent, taken));
             self.count = self.places.len();
         }
     }
 }
 
-/// That this arrived for a stream; a blank one takes its place.
+/// That this arrived for a stream.
 #[inline(never)]
-fn arrived(stream: usize, taken: &mut KeptArrival) -> CoreStep
-    ensures { result ≡ step.Arrive stream taken.old }
+fn arrived(stream: usize, lent: &Option<LentData<'_>>, taken: &mut KeptArrival) -> CoreStep
+    requires { HasRoomFor taken.old lent.now }
+    ensures { IsKept stream (brought_view lent.now taken.old) result }
 {
-    let taken = mem::replace(taken, KeptArrival::blank());
+    let taken = match lent {
+        Some(data) => copied(data, taken),
+        None => mem::replace(taken, KeptArrival::blank()),
+    };
     CoreStep::Arrive { stream, taken }
+}
+
+/// A copy of data that is lent: long data is written over what is kept, in whose place stands a blank one then.
+fn copied(data: &LentData<'_>, taken: &mut KeptArrival) -> KeptArrival
+    requires { has_room taken.old data.now.payload.now ≡ true }
+    ensures { taken_view result ≡ lent_view data.now }
+{
+    if data.payload.len() <= SHORT_PAYLOAD {
+        return KeptArrival::of_short(data);
+    }
+    let _ = taken.take(data);
+    mem::replace(taken, KeptArrival::blank())
 }
 
 /// Makes this step that this arrived for a stream.
 #[inline(always)]
-fn write_over(place: &mut CoreStep, stream: usize, taken: &mut KeptArrival)
-    ensures { place.new ≡ step.Arrive stream taken.old }
+fn write_over(
+    place: &mut CoreStep,
+    stream: usize,
+    lent: &Option<LentData<'_>>,
+    taken: &mut KeptArrival,
+)
+    requires { HasRoomFor taken.old lent.now }
+    ensures { IsKept stream (brought_view lent.now taken.old) place.new }
+{
+    if let Some(data) = lent {
+        if write_data(place, stream, data) {
+            return;
+        }
+    }
+    *place = arrived(stream, lent, taken);
+}
+
+/// Writes that this data arrived for a stream over a step, where it can be written over what arrived by that one. Whether it did; else it stays.
+#[inline(always)]
+fn write_data(place: &mut CoreStep, stream: usize, data: &LentData<'_>) -> bool
+    ensures written { result ≡ true → IsKept stream (lent_view data.now) place.new }
+    ensures none { result ≡ false → place.new ≡ place.old }
 {
     if let CoreStep::Arrive {
         stream: own_stream,
-        taken: own,
+        taken,
     } = place
     {
-        *own_stream = stream;
-        take_over(own, taken);
-        return;
-    }
-    *place = arrived(stream, taken);
-}
-
-/// Makes this what the other one is: short data is copied, and all else changes places with what was here.
-#[inline(always)]
-fn take_over(own: &mut KeptArrival, other: &mut KeptArrival)
-    ensures { own.new ≡ other.old }
-{
-    if !copy_short(own, other) {
-        mem::swap(own, other);
-    }
-}
-
-/// Copies short data over short data; whether both are that. Else this stays.
-#[inline(always)]
-fn copy_short(own: &mut KeptArrival, other: &KeptArrival) -> bool
-    ensures copied { result ≡ true → own.new ≡ other.now }
-    ensures none { result ≡ false → own.new ≡ own.old }
-{
-    if let KeptArrival::Data {
-        instant,
-        quality,
-        payload: Payload::Short(bytes),
-        claim,
-    } = other
-    {
-        if let KeptArrival::Data {
-            instant: own_instant,
-            quality: own_quality,
-            payload,
-            claim: own_claim,
-        } = own
-        {
-            if write_in_place(payload, bytes) {
-                *own_instant = *instant;
-                *own_quality = *quality;
-                *own_claim = *claim;
-                return true;
-            }
+        if taken.take(data) {
+            *own_stream = stream;
+            return true;
         }
     }
     false
-}
-
-/// Writes this short payload over one in place; whether there is one. Else it stays.
-#[inline(always)]
-fn write_in_place(own: &mut Payload, other: &ShortPayload) -> bool
-    ensures written { result ≡ true → own.new ≡ payload.Short other.now }
-    ensures none { result ≡ false → own.new ≡ own.old }
-{
-    match own {
-        Payload::Short(own) => {
-            own.set_as(other);
-            true
-        }
-        Payload::Long(_) => false,
-    }
 }

@@ -5,7 +5,7 @@ ghost use Rattle.pdc_log.specs.Rules.{head_of};
 ghost use Rattle.pdc_life.specs.Answer.{ReadStep, ToPop};
 
 use logbook::{Gain, Offer, Plain, Play, Rule, Seen, Start, Word};
-use pdc_core::KeptArrival;
+use pdc_core::{KeptArrival, LentData};
 use pdc_life::MAX_PMUS;
 use std::marker::{Brand, Model, PhantomData};
 use std::sync::Wait;
@@ -82,21 +82,23 @@ impl Play<Noted, u64> for Add {
 
 /// What arrives: these bytes for a stream, which say this.
 #[derive(Drop)]
-pub struct Arriving<'a> {
+pub struct Arriving<'a, 'b> {
     /// The number of the stream, from 0.
     pub stream: usize,
     /// What came.
     pub bytes: &'a [u8],
-    /// What it says.
+    /// The data that it says, if it is that.
+    pub lent: &'a Option<LentData<'b>>,
+    /// Else what it says.
     pub taken: &'a KeptArrival,
 }
 
-impl<'a> Plain<Arriving<'a>, Noted, u64> for Add {
+impl<'a, 'b> Plain<Arriving<'a, 'b>, Noted, u64> for Add {
     ghost use Rattle.std.specs.Prelude.{None};
-    ghost use Rattle.pdc_core.specs.KeptArrival.{taken_view};
+    ghost use Rattle.pdc_core.specs.Lent.{brought_view};
     ghost use Rattle.pdc_life.specs.Answer.{ToArrive};
 
-    ghost ask = { λ a. ToArrive a.stream a.bytes.now (taken_view a.taken.now) };
+    ghost ask = { λ a. ToArrive a.stream a.bytes.now (brought_view a.lent.now a.taken.now) };
 
     ghost state = { λ a. None };
 }

@@ -138,7 +138,7 @@ impl<T: Table> Merger<T> {
         }
     }
 
-    /// Answers data of a node, as it was kept.
+    /// Answers data of a node, as it was read.
     #[inline(always)]
     pub(crate) fn arrive_read(
         &mut self,

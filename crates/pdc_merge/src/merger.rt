@@ -18,7 +18,7 @@ use crate::layouts::HeldLayouts;
 use crate::opens::copy_of_merger;
 use pdc_align::{Alignment, Plan, Ticked, append_layout_frame};
 use pdc_arrival::{Arrival, Counts, Reading, arrival_from_node, hear_from_node};
-use pdc_core::{Core, KeptArrival};
+use pdc_core::{Core, KeptArrival, LentData};
 use pdc_frame::{Buffer, FrontDifference};
 use pdc_life::{MAX_PMUS, MergerSettings, Outcome, lives_are_runs, rows_have_tags};
 use pdc_table::{DueRow, HeldBox, Table};
@@ -115,7 +115,7 @@ impl<T: Table> Merger<T> {
         })
     }
 
-    /// Answers what was kept of an arrival. It stands apart, so that data and refused bytes do not pay for an [`Arrival`].
+    /// Answers what was kept of an arrival. It stands apart, so that refused bytes do not pay for an [`Arrival`].
     #[inline(never)]
     fn arrive_whole(&mut self, stream: usize, taken: &KeptArrival) -> Outcome
         requires { fits_merger self.old.settings stream (taken_view taken.now) ≡ true }
@@ -177,25 +177,25 @@ impl<T: Table> Core for Merger<T> {
         outcome
     }
 
-    /// Data and refused bytes are answered as they were kept: an [`Arrival`] has room for all sections of a layout, and is made for those alone.
+    /// Refused bytes are answered as they were kept: an [`Arrival`] has room for all sections of a layout, and is made for the others.
     fn arrive_kept(&mut self, stream: usize, taken: &KeptArrival) -> Outcome {
         match taken {
-            KeptArrival::Data {
-                instant,
-                quality,
-                payload,
-                claim,
-            } => self.arrive_read(
-                stream,
-                *instant,
-                *quality,
-                payload.as_slice(),
-                payload.sent(),
-                claim,
-            ),
             KeptArrival::BytesRefused(refusal) => self.arrive_refused(*refusal),
-            KeptArrival::Layout(_) => self.arrive_whole(stream, taken),
+            _ => self.arrive_whole(stream, taken),
         }
+    }
+
+    /// Data is answered as it was read, with no [`Arrival`] between.
+    fn arrive_lent(&mut self, stream: usize, data: &LentData<'_>) -> Outcome {
+        let sent = data.sent();
+        self.arrive_read(
+            stream,
+            data.instant,
+            data.quality,
+            data.payload,
+            sent.as_ref(),
+            &data.claim,
+        )
     }
 
     /// Data and refused bytes are answered as they were read: an [`Arrival`] has room for all sections of a layout, and is made for

@@ -5,6 +5,7 @@ ghost use Rattle.pdc_align.specs.Align.{given_by};
 ghost use Rattle.pdc_arrival.specs.Counts.{after_answer};
 ghost use Rattle.pdc_core.specs.Fits.{fits_node};
 ghost use Rattle.pdc_core.specs.KeptArrival.{taken_view};
+ghost use Rattle.pdc_core.specs.Lent.{lent_view};
 ghost use Rattle.pdc_life.specs.Answer.{ToArrive, answered};
 ghost use Rattle.pdc_life.specs.Arrival.{BytesRefused, Data};
 ghost use Rattle.pdc_life.specs.CoreKind.{given_of, OfNode, Says};
@@ -18,7 +19,7 @@ use crate::answering;
 use crate::opens::copy_of;
 use pdc_align::{Alignment, Plan, Ticked, append_layout_frame, others_are_left};
 use pdc_arrival::{Arrival, Counts, arrival_from_pmu, hear_from_pmu};
-use pdc_core::{Core, KeptArrival};
+use pdc_core::{Core, KeptArrival, LentData};
 use pdc_frame::Buffer;
 use pdc_life::{
     MAX_PMUS, Outcome, Reading, Refusal, SectionView, Settings, lives_are_runs, rows_have_tags,
@@ -154,7 +155,7 @@ impl<T: Table> Node<T> {
         outcome
     }
 
-    /// Answers what was kept of an arrival. It stands apart, so that data and refused bytes do not pay for an [`Arrival`].
+    /// Answers what was kept of an arrival. It stands apart, so that refused bytes do not pay for an [`Arrival`].
     #[inline(never)]
     fn arrive_whole(&mut self, stream: usize, taken: &KeptArrival) -> Outcome
         requires { fits_node self.old.settings stream (taken_view taken.now) ≡ true }
@@ -171,6 +172,26 @@ impl<T: Table> Node<T> {
         ensures memory { self.new.memory ≡ self.old.memory }
     {
         let arrival = taken.view();
+        self.arrive(stream, &arrival)
+    }
+
+    /// Answers data that is lent, whether its check word is computed or not. It stands apart for the same reason.
+    #[inline(never)]
+    fn arrive_claimed(&mut self, stream: usize, data: &LentData<'_>) -> Outcome
+        requires { fits_node self.old.settings stream (lent_view data.now) ≡ true }
+        ensures answer { (g : Given) (E : List Entry) → StandsFor g E self.old →
+            result ≡ (node_answer g E stream (lent_view data.now)).outcome }
+        ensures stands { (g : Given) (E : List Entry) (bytes : List ℕ) →
+            Says (OfNode self.old.settings) stream bytes (lent_view data.now) →
+            StandsFor g E self.old →
+            StandsFor g (answered node_answer g E (ToArrive stream bytes (lent_view data.now)) ∷
+            E) self.new }
+        ensures counts { self.new.counts ≡ after_answer result self.old.counts }
+        ensures popped { self.new.popped ≡ self.old.popped }
+        ensures settings { self.new.settings ≡ self.old.settings }
+        ensures memory { self.new.memory ≡ self.old.memory }
+    {
+        let arrival = data.view();
         self.arrive(stream, &arrival)
     }
 
@@ -222,20 +243,19 @@ impl<T: Table> Core for Node<T> {
         outcome
     }
 
-    /// Data and refused bytes are answered as they were kept: an [`Arrival`] has room for all sections of a layout, and is made for those alone.
+    /// Refused bytes are answered as they were kept: an [`Arrival`] has room for all sections of a layout, and is made for the others.
     fn arrive_kept(&mut self, stream: usize, taken: &KeptArrival) -> Outcome {
         match taken {
-            KeptArrival::Data {
-                instant,
-                quality,
-                payload,
-                claim,
-            } => match claim {
-                None => self.arrive_data(stream, *instant, *quality, payload.as_slice()),
-                Some(_) => self.arrive_whole(stream, taken),
-            },
             KeptArrival::BytesRefused(refusal) => self.arrive_refused(*refusal),
-            KeptArrival::Layout(_) => self.arrive_whole(stream, taken),
+            _ => self.arrive_whole(stream, taken),
+        }
+    }
+
+    /// Data is answered as it was read, with no [`Arrival`] between. A PMU's has its check word computed.
+    fn arrive_lent(&mut self, stream: usize, data: &LentData<'_>) -> Outcome {
+        match data.claim {
+            None => self.arrive_data(stream, data.instant, data.quality, data.payload),
+            Some(_) => self.arrive_claimed(stream, data),
         }
     }
 

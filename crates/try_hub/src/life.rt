@@ -4,7 +4,7 @@ ghost use Rattle.pdc_hub.specs.Pops.{HasSameShares};
 
 use crate::listed::{Listed, Silent};
 use crate::marks::cleared;
-use pdc_core::{Core, Opens, Reads};
+use pdc_core::{Core, KeptArrival, Opens, Reads};
 use pdc_frame::SECONDS;
 use pdc_life::MAX_PMUS;
 use pdc_mark::{Mark, ModelMark};
@@ -84,12 +84,14 @@ fn arrive<C: Core + Drop, N: Naming<C::Settings>, R: Wait + Clock>(
     let Next::Datagram(len) = source.next(buffer.as_mut_slice()) else {
         return None;
     };
-    let Ok(mut datagram) = lived.settings.read_kept(alloc, stream, &buffer[..len]) else {
+    let bytes = &buffer[..len];
+    let mut kept = KeptArrival::blank();
+    let Ok(lent) = lived.settings.lend(alloc, stream, bytes, &mut kept) else {
         return None;
     };
     let Ok(answer) = lived
         .hub
-        .deliver(rt, stream, &buffer[..len], &mut datagram, shares)
+        .deliver(rt, stream, bytes, &lent, &mut kept, shares)
     else {
         return None;
     };

@@ -3,7 +3,7 @@ ghost use Rattle.std.specs.Prelude.{◌≡◌, ◌<◌, ◌≤◌, Some};
 ghost use Rattle.try_hub.specs.Mine.{IsFit};
 
 use crate::marks::cleared;
-use pdc_core::{Core, Reads};
+use pdc_core::{Core, KeptArrival, Reads};
 use pdc_mark::{Mark, ModelMark};
 use pdc_row::DueRow;
 use pdc_threads::{Hub, Ledgers, Naming, Numbered, Pops, Shares};
@@ -51,14 +51,17 @@ pub fn deliver<C: Core + Drop, N: Naming<C::Settings>, R: Wait>(
     ensures settings { C.settings_of mine.new.bare ≡ C.settings_of mine.old.bare }
     ensures fit { IsFit mine.new N.top.parts N.turns.parts }
 {
-    let Ok(mut datagram) = mine.bare.settings().read_kept(alloc, stream, bytes) else {
+    let mut kept = KeptArrival::blank();
+    let settings = mine.bare.settings();
+    let Ok(lent) = settings.lend(alloc, stream, bytes, &mut kept) else {
         return None;
     };
     let Ok(Numbered { step, answer }) = hub.deliver(
         rt,
         stream,
         bytes,
-        &mut datagram,
+        &lent,
+        &mut kept,
         &mut mine.shares,
     ) else {
         return None;

@@ -7,7 +7,7 @@ ghost use Rattle.try_memory.specs.Mine.{IsFit};
 use crate::runs::settings::of_node;
 use crate::trial::{DONE, NO_MEMORY, State, begin, end, made, state_of};
 use crate::vectors::{DATA_11, FIRST, SOC};
-use pdc_core::Reads;
+use pdc_core::{KeptArrival, Reads};
 use pdc_hub::{Blanks, Hub, HubFault, Ledgers, Naming, Pops, Shares};
 use pdc_life::{MAX_PMUS, Settings};
 use pdc_mark::ModelMark;
@@ -91,10 +91,15 @@ fn call<N: Naming<Settings>, R: Wait>(
     ensures fit { IsFit mine.new N.top.parts N.turns.parts }
 {
     match called {
-        Called::Deliver => match settings.read_kept(alloc, 0, &DATA_11) {
-            Ok(mut kept) => told(hub.deliver(rt, 0, &DATA_11, &mut kept, &mut mine.shares)),
-            Err(_) => NO_MEMORY,
-        },
+        Called::Deliver => {
+            let mut kept = KeptArrival::blank();
+            match settings.lend(alloc, 0, &DATA_11, &mut kept) {
+                Ok(lent) => {
+                    told(hub.deliver(rt, 0, &DATA_11, &lent, &mut kept, &mut mine.shares))
+                }
+                Err(_) => NO_MEMORY,
+            }
+        }
         Called::Tick => {
             hub.tick(rt, &mut mine.pops, FIRST, &ModelMark::new(1, 0));
             DONE

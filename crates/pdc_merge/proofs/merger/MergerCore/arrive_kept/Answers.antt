@@ -1,18 +1,11 @@
-use Rattle.std.proofs.Common.{◌≡◌, ◌∷◌, ◌∙◌, ℕ, List, ap, subst, sym}
-use Rattle.pdc_core.specs.KeptArrival.{data_view, taken_view}
+use Rattle.std.proofs.Common.{◌∷◌, ◌∙◌, ap, subst, sym}
+use Rattle.pdc_core.specs.KeptArrival.{taken_view}
 use Rattle.pdc_life.specs.Answer.{ToArrive, answered}
 use Rattle.pdc_life.specs.Arrival.{Arrival}
 use Rattle.pdc_life.specs.CoreKind.{OfMerger, Says}
 use Rattle.pdc_life.specs.Merger.{merged_answer}
 use Rattle.pdc_merge.specs.Merger.{StandsFor}
 use Rattle.pdc_merge.proofs.merger.MergerCore.arrive_kept.Goals as goal
-
-pub returns-in-Data-clause-stands : goal.returns-in-Data-clause-stands
-returns-in-Data-clause-stands g c h E bytes =
-    let same : data_view c.in-Data.instant c.in-Data.quality c.as_slice.result.now c.in-Data.claim ≡ taken_view c.args.taken.now =
-    ap (λ (l : List ℕ). data_view c.in-Data.instant c.in-Data.quality l c.in-Data.claim) c.as_slice.ensures ∙ ap taken_view (sym c.in-Data.is) in
-    subst (λ (a : Arrival). Says (OfMerger c.args.self.now.settings) c.args.stream bytes a → StandsFor h E c.args.self.now → StandsFor h (answered merged_answer h E (ToArrive c.args.stream bytes a) ∷ E) c.arrive_read.new.self)
-    same (c.arrive_read.ensures.stands h E bytes)
 
 pub returns-in-BytesRefused-clause-answer : goal.returns-in-BytesRefused-clause-answer
 returns-in-BytesRefused-clause-answer g c h E stands =
