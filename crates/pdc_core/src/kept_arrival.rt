@@ -206,45 +206,6 @@ impl KeptArrival {
         }
     }
 
-    /// Makes this data of this instant, with this time quality byte and a copy of this payload. Data of at most 214 bytes is written over such
-    /// data in place, and a longer payload over one of its length.
-    ///
-    /// # Errors
-    ///
-    /// [`AllocError`] where the payload has more than 214 bytes, and there is no memory. Then it stays as it was.
-    #[inline(always)]
-    pub fn set_data(
-        &mut self,
-        alloc: Global,
-        instant: u64,
-        quality: u8,
-        payload: &[u8],
-    ) -> Result<(), AllocError>
-        ensures same { OnOk result (taken_view self.new ≡ Data instant quality payload.now) }
-        ensures refused { OnErr result (WasRefused (length payload.now)) }
-        ensures in_place { takes_no_memory (Data instant quality payload.now) ≡ true →
-            IsOk result }
-        ensures err { OnErr result (self.new ≡ self.old) }
-    {
-        let data = LentData {
-            instant,
-            quality,
-            payload,
-            frame: None,
-            claim: None,
-        };
-        if self.take(&data) {
-            return Ok(());
-        }
-        // Nothing can be written over, which is seldom: a call of its own. Data has no column.
-        let reading = Reading::Data {
-            instant,
-            quality,
-            payload,
-        };
-        self.set_reading(alloc, 0, &reading)
-    }
-
     /// Makes this a copy of data that is lent, where it can be written over what is here with no memory. Whether it did; else it stays as it
     /// was.
     #[inline(always)]
@@ -282,29 +243,6 @@ impl KeptArrival {
             payload: Payload::in_place(data.payload),
             claim: data.claim,
         }
-    }
-
-    /// Makes this a copy of data that is lent.
-    ///
-    /// # Errors
-    ///
-    /// [`AllocError`] where the payload has more than 214 bytes, and there is no memory. Then it stays as it was.
-    pub fn set_lent(&mut self, alloc: Global, data: &LentData<'_>) -> Result<(), AllocError>
-        ensures same { OnOk result (taken_view self.new ≡ lent_view data.now) }
-        ensures refused { OnErr result (WasRefused (length data.now.payload.now)) }
-        ensures in_place { length data.now.payload.now ≤ SHORT_PAYLOAD → IsOk result }
-        ensures err { OnErr result (self.new ≡ self.old) }
-    {
-        if self.take(data) {
-            return Ok(());
-        }
-        *self = KeptArrival::Data {
-            instant: data.instant,
-            quality: data.quality,
-            payload: Payload::of(alloc, data.payload)?,
-            claim: data.claim,
-        };
-        Ok(())
     }
 
     /// Whether a copy of data with this payload takes no memory: of at most 214 bytes it lies in place, and others may be written over what
