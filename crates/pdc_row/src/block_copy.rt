@@ -9,6 +9,8 @@ pub fn copy_block(to: &mut [u8], from: &[u8])
     ensures { to.new ≡ from.now }
 {
     let len = from.len();
+    // So it is known that both are as long.
+    let to = &mut to[..len];
     if len > 64 {
         to.copy_from_slice(from);
     } else if len > 32 {

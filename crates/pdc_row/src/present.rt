@@ -1,5 +1,5 @@
 //! Which blocks count as data that came.
-ghost use Rattle.std.specs.Prelude.{◌≡◌, length};
+ghost use Rattle.std.specs.Prelude.{◌≡◌, length, true};
 ghost use Rattle.pdc_block.specs.pdc_cfg.Shape.{word_count_of};
 ghost use Rattle.pdc_block.specs.Block.{body_len_of};
 ghost use Rattle.pdc_row.specs.CellView.{block_view, is_present};
@@ -28,7 +28,17 @@ pub fn has_data(shape: Shape, bytes: &[u8]) -> bool
     requires { length bytes.now ≡ body_len_of shape }
     ensures { result ≡ is_present (written_by shape bytes.now) }
 {
-    read_word(bytes, 0) != ABSENT_STAT || has_other_words(shape, bytes)
+    has_other_stat(shape, bytes) || has_other_words(shape, bytes)
+}
+
+/// Whether the first word of these bytes tells that they are no absent block of the shape.
+#[inline(always)]
+pub(crate) fn has_other_stat(shape: Shape, bytes: &[u8]) -> bool
+    requires { length bytes.now ≡ body_len_of shape }
+    ensures { result ≡ true → is_present (written_by shape bytes.now) ≡ true }
+{
+    let _ = shape;
+    read_word(bytes, 0) != ABSENT_STAT
 }
 
 /// The same. A call of its own, so that a look at a block that is present stays small.

@@ -12,7 +12,7 @@ ghost use Rattle.pdc_row.specs.declared.limits.TheConstants.{MAX_PMUS};
 
 use crate::limits::MAX_PMUS;
 use crate::offered::are_bytes;
-use crate::present::has_data;
+use crate::present::{has_data, has_other_stat};
 use crate::shapes::{are_each_same, are_same};
 use crate::{CopyFrom, KnownFront, Offered, Shapes};
 use arrayvec::ArrayVec;
@@ -194,6 +194,17 @@ impl RowBlocks {
     /// Whether the block at a place is any other than the absent block of its shape.
     #[inline(always)]
     pub fn is_present(&self, place: usize) -> bool
+        requires { place < length self.now }
+        ensures { (default : BlockView) → result ≡
+            is_present (slice_index_or self.now place default) }
+    {
+        let body = self.body(place);
+        has_other_stat(body.shape, body.bytes) || self.has_data_at(place)
+    }
+
+    /// The same. A call of its own, so that a look at a block that is present reads its first word alone.
+    #[inline(never)]
+    fn has_data_at(&self, place: usize) -> bool
         requires { place < length self.now }
         ensures { (default : BlockView) → result ≡
             is_present (slice_index_or self.now place default) }

@@ -144,6 +144,7 @@ impl Table for RingTable {
         self.offer(stream, instant, &Listed { cells }, quality)
     }
 
+    #[inline(always)]
     fn put_bodies(
         &mut self,
         stream: usize,

@@ -85,14 +85,15 @@ fn copy_open(instants: &mut Held<u64>, others: &[u64])
     }
 }
 
-/// Makes a row in which nothing was taken yet ready for the blocks that come.
+/// Makes a row in which nothing was taken yet ready for the blocks that come, where it is not that of the instant yet.
 #[inline(always)]
-fn make_ready(places: &mut Held<OpenRow>, place: usize, spare: &mut usize)
+fn make_ready(places: &mut Held<OpenRow>, place: usize, instant: u64, spare: &mut usize)
     requires { place < length places.old.items }
     ensures items { places.new.items ≡ places.old.items }
     ensures capacity { places.new.capacity ≡ places.old.capacity }
 {
-    if places.item(place).is_new() {
+    let row = places.item(place);
+    if row.instant() != instant && row.is_new() {
         ready_at(places.as_mut_slice(), place, *spare);
         *spare = place;
     }
@@ -234,7 +235,7 @@ impl Rows {
         ensures capacity { self.new.places.capacity ≡ self.old.places.capacity }
         ensures open_capacity { self.new.open.capacity ≡ self.old.open.capacity }
     {
-        make_ready(&mut self.places, here.place, &mut self.spare);
+        make_ready(&mut self.places, here.place, here.instant, &mut self.spare);
         let row = self.places.item_mut(here.place);
         if row.instant() != here.instant {
             row.begin(here.instant);
