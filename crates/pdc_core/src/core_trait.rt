@@ -94,21 +94,21 @@ pub trait Core {
     }
 
     /// Answers data that is lent, as it does what arrived.
-    fn arrive_lent(&mut self, stream: usize, data: &LentData<'_>) -> Outcome
-        requires { Self.Settings.fits (settings_of self.old) stream (lent_view data.now) ≡ true }
+    fn arrive_lent(&mut self, stream: usize, lent: &LentData<'_>) -> Outcome
+        requires { Self.Settings.fits (settings_of self.old) stream (lent_view lent.now) ≡ true }
         ensures answer { (g : Given) (E : List Entry) → stands_for self.old g E →
-            result ≡ (rules g E stream (lent_view data.now)).outcome }
+            result ≡ (rules g E stream (lent_view lent.now)).outcome }
         ensures stands { (g : Given) (E : List Entry) (bytes : List ℕ) →
-            Self.Settings.says (settings_of self.old) stream bytes (lent_view data.now) →
+            Self.Settings.says (settings_of self.old) stream bytes (lent_view lent.now) →
             stands_for self.old g E →
             stands_for self.new g (answered rules g E
-            (ToArrive stream bytes (lent_view data.now)) ∷ E) }
+            (ToArrive stream bytes (lent_view lent.now)) ∷ E) }
         ensures counts { counts_of self.new ≡ after_answer result (counts_of self.old) }
         ensures popped { popped_of self.new ≡ popped_of self.old }
         ensures settings { settings_of self.new ≡ settings_of self.old }
         ensures memory { memory self.new ≡ memory self.old }
     {
-        let arrival = data.view();
+        let arrival = lent.view();
         self.arrive(stream, &arrival)
     }
 

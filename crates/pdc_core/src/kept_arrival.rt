@@ -209,9 +209,9 @@ impl KeptArrival {
     /// Makes this a copy of data that is lent, where it can be written over what is here with no memory. Whether it did; else it stays as it
     /// was.
     #[inline(always)]
-    pub fn take(&mut self, data: &LentData<'_>) -> bool
-        ensures when { result ≡ can_take self.old data.now.payload.now }
-        ensures same { result ≡ true → taken_view self.new ≡ lent_view data.now }
+    pub fn take(&mut self, lent: &LentData<'_>) -> bool
+        ensures when { result ≡ can_take self.old lent.now.payload.now }
+        ensures same { result ≡ true → taken_view self.new ≡ lent_view lent.now }
         ensures none { result ≡ false → self.new ≡ self.old }
     {
         if let KeptArrival::Data {
@@ -221,10 +221,10 @@ impl KeptArrival {
             claim,
         } = self
         {
-            if payload.set(data.payload) {
-                *instant = data.instant;
-                *quality = data.quality;
-                *claim = data.claim;
+            if payload.set(lent.payload) {
+                *instant = lent.instant;
+                *quality = lent.quality;
+                *claim = lent.claim;
                 return true;
             }
         }
@@ -233,15 +233,15 @@ impl KeptArrival {
 
     /// A copy of data that is lent, in place: of at most 214 bytes.
     #[inline(never)]
-    pub fn of_short(data: &LentData<'_>) -> KeptArrival
-        requires { length data.now.payload.now ≤ SHORT_PAYLOAD }
-        ensures { taken_view result ≡ lent_view data.now }
+    pub fn of_short(lent: &LentData<'_>) -> KeptArrival
+        requires { length lent.now.payload.now ≤ SHORT_PAYLOAD }
+        ensures { taken_view result ≡ lent_view lent.now }
     {
         KeptArrival::Data {
-            instant: data.instant,
-            quality: data.quality,
-            payload: Payload::in_place(data.payload),
-            claim: data.claim,
+            instant: lent.instant,
+            quality: lent.quality,
+            payload: Payload::in_place(lent.payload),
+            claim: lent.claim,
         }
     }
 

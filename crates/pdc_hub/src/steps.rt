@@ -124,14 +124,14 @@ fn arrived(stream: usize, lent: &Option<LentData<'_>>, taken: &mut KeptArrival) 
 }
 
 /// A copy of data that is lent: long data is written over what is kept, in whose place stands a blank one then.
-fn copied(data: &LentData<'_>, taken: &mut KeptArrival) -> KeptArrival
-    requires { has_room taken.old data.now.payload.now ≡ true }
-    ensures { taken_view result ≡ lent_view data.now }
+fn copied(lent: &LentData<'_>, taken: &mut KeptArrival) -> KeptArrival
+    requires { has_room taken.old lent.now.payload.now ≡ true }
+    ensures { taken_view result ≡ lent_view lent.now }
 {
-    if data.payload.len() <= SHORT_PAYLOAD {
-        return KeptArrival::of_short(data);
+    if lent.payload.len() <= SHORT_PAYLOAD {
+        return KeptArrival::of_short(lent);
     }
-    let _ = taken.take(data);
+    let _ = taken.take(lent);
     mem::replace(taken, KeptArrival::blank())
 }
 
@@ -156,8 +156,8 @@ fn write_over(
 
 /// Writes that this data arrived for a stream over a step, where it can be written over what arrived by that one. Whether it did; else it stays.
 #[inline(always)]
-fn write_data(place: &mut CoreStep, stream: usize, data: &LentData<'_>) -> bool
-    ensures written { result ≡ true → IsKept stream (lent_view data.now) place.new }
+fn write_data(place: &mut CoreStep, stream: usize, lent: &LentData<'_>) -> bool
+    ensures written { result ≡ true → IsKept stream (lent_view lent.now) place.new }
     ensures none { result ≡ false → place.new ≡ place.old }
 {
     if let CoreStep::Arrive {
@@ -165,7 +165,7 @@ fn write_data(place: &mut CoreStep, stream: usize, data: &LentData<'_>) -> bool
         taken,
     } = place
     {
-        if taken.take(data) {
+        if taken.take(lent) {
             *own_stream = stream;
             return true;
         }

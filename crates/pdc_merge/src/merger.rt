@@ -186,15 +186,15 @@ impl<T: Table> Core for Merger<T> {
     }
 
     /// Data is answered as it was read, with no [`Arrival`] between.
-    fn arrive_lent(&mut self, stream: usize, data: &LentData<'_>) -> Outcome {
-        let sent = data.sent();
+    fn arrive_lent(&mut self, stream: usize, lent: &LentData<'_>) -> Outcome {
+        let sent = lent.sent();
         self.arrive_read(
             stream,
-            data.instant,
-            data.quality,
-            data.payload,
+            lent.instant,
+            lent.quality,
+            lent.payload,
             sent.as_ref(),
-            &data.claim,
+            &lent.claim,
         )
     }
 

@@ -177,21 +177,21 @@ impl<T: Table> Node<T> {
 
     /// Answers data that is lent, whether its check word is computed or not. It stands apart for the same reason.
     #[inline(never)]
-    fn arrive_claimed(&mut self, stream: usize, data: &LentData<'_>) -> Outcome
-        requires { fits_node self.old.settings stream (lent_view data.now) ≡ true }
+    fn arrive_claimed(&mut self, stream: usize, lent: &LentData<'_>) -> Outcome
+        requires { fits_node self.old.settings stream (lent_view lent.now) ≡ true }
         ensures answer { (g : Given) (E : List Entry) → StandsFor g E self.old →
-            result ≡ (node_answer g E stream (lent_view data.now)).outcome }
+            result ≡ (node_answer g E stream (lent_view lent.now)).outcome }
         ensures stands { (g : Given) (E : List Entry) (bytes : List ℕ) →
-            Says (OfNode self.old.settings) stream bytes (lent_view data.now) →
+            Says (OfNode self.old.settings) stream bytes (lent_view lent.now) →
             StandsFor g E self.old →
-            StandsFor g (answered node_answer g E (ToArrive stream bytes (lent_view data.now)) ∷
+            StandsFor g (answered node_answer g E (ToArrive stream bytes (lent_view lent.now)) ∷
             E) self.new }
         ensures counts { self.new.counts ≡ after_answer result self.old.counts }
         ensures popped { self.new.popped ≡ self.old.popped }
         ensures settings { self.new.settings ≡ self.old.settings }
         ensures memory { self.new.memory ≡ self.old.memory }
     {
-        let arrival = data.view();
+        let arrival = lent.view();
         self.arrive(stream, &arrival)
     }
 
@@ -252,10 +252,10 @@ impl<T: Table> Core for Node<T> {
     }
 
     /// Data is answered as it was read, with no [`Arrival`] between. A PMU's has its check word computed.
-    fn arrive_lent(&mut self, stream: usize, data: &LentData<'_>) -> Outcome {
-        match data.claim {
-            None => self.arrive_data(stream, data.instant, data.quality, data.payload),
-            Some(_) => self.arrive_claimed(stream, data),
+    fn arrive_lent(&mut self, stream: usize, lent: &LentData<'_>) -> Outcome {
+        match lent.claim {
+            None => self.arrive_data(stream, lent.instant, lent.quality, lent.payload),
+            Some(_) => self.arrive_claimed(stream, lent),
         }
     }
 

@@ -10,4 +10,4 @@ use Rattle.pdc_node.proofs.node.NodeCore.arrive_lent.Goals as goal
 pub returns-in-None-clause-stands : goal.returns-in-None-clause-stands
 returns-in-None-clause-stands g c h E bytes =
     subst (λ (a : Arrival). Says (OfNode c.args.self.now.settings) c.args.stream bytes a → StandsFor h E c.args.self.now → StandsFor h (answered node_answer h E (ToArrive c.args.stream bytes a) ∷ E) c.arrive_data.new.self)
-    (ap (data_view c.args.data.now.instant c.args.data.now.quality c.args.data.now.payload.now) (sym c.in-None.is)) (c.arrive_data.ensures.stands h E bytes)
+    (ap (data_view c.args.lent.now.instant c.args.lent.now.quality c.args.lent.now.payload.now) (sym c.in-None.is)) (c.arrive_data.ensures.stands h E bytes)
