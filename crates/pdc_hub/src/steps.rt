@@ -104,14 +104,26 @@ impl Steps {
             write_over(self.places.item_mut(self.count), stream, lent, taken);
             self.count += 1;
         } else {
-            self.places.push(arrived(stream, lent, taken));
-            self.count = self.places.len();
+            self.arrive_anew(stream, lent, taken);
         }
+    }
+
+    /// The same where no place was written yet behind the last step. A call of its own, so that the way of the others makes no room for a step.
+    #[inline(never)]
+    fn arrive_anew(&mut self, stream: usize, lent: &Option<LentData<'_>>, taken: &mut KeptArrival)
+        requires space { length self.old.items < self.old.capacity }
+        requires room { HasRoomFor taken.old lent.now }
+        ensures items { KeepsArrival stream (brought_view lent.now taken.old) self.old.items
+            self.new.items }
+        ensures len { length self.new.items ≡ length self.old.items + 1 }
+        ensures capacity { self.new.capacity ≡ self.old.capacity }
+    {
+        let step = arrived(stream, lent, taken);
+        self.push(step);
     }
 }
 
 /// That this arrived for a stream.
-#[inline(never)]
 fn arrived(stream: usize, lent: &Option<LentData<'_>>, taken: &mut KeptArrival) -> CoreStep
     requires { HasRoomFor taken.old lent.now }
     ensures { IsKept stream (brought_view lent.now taken.old) result }
@@ -151,6 +163,20 @@ fn write_over(
             return;
         }
     }
+    write_anew(place, stream, lent, taken);
+}
+
+/// The same where it cannot be written over what is there. A call of its own for the same reason.
+#[inline(never)]
+fn write_anew(
+    place: &mut CoreStep,
+    stream: usize,
+    lent: &Option<LentData<'_>>,
+    taken: &mut KeptArrival,
+)
+    requires { HasRoomFor taken.old lent.now }
+    ensures { IsKept stream (brought_view lent.now taken.old) place.new }
+{
     *place = arrived(stream, lent, taken);
 }
 
