@@ -10,7 +10,7 @@ use std::sync::atomic::{AtomicBool, AtomicU64, Ordering};
 use std::thread;
 
 /// How often a source or a ticker looks before it gives up.
-const TURNS: u32 = 10_000_000;
+const TURNS: u32 = 1_000_000_000;
 
 /// What a source does at a call.
 #[derive(Clone, Copy, Debug)]
