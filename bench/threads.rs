@@ -33,7 +33,7 @@ use ring::COLUMNS;
 use script::Core;
 use std::sync::atomic::{AtomicU64, Ordering};
 use std::sync::mpsc::{Receiver, Sender, channel};
-use std::sync::{Mutex, PoisonError};
+use std::sync::{Mutex, MutexGuard, PoisonError};
 use std::thread;
 use std::time::Instant;
 
@@ -45,6 +45,10 @@ const FLOOR: u64 = 57_478_860_000;
 
 /// How many instants a source may be ahead of the last one that was published.
 const AHEAD: u64 = 100;
+
+/// How often a thread that finds the lock held lets another one run, before it waits for it: with more threads than cores that is faster than
+/// to sleep and be woken.
+const TURNS: usize = 8;
 
 /// The size of a receiver's buffer.
 const MAX_SIZE: usize = 65535;
@@ -127,7 +131,20 @@ struct Shared {
 
 impl Shared {
     fn with_node<T>(&self, work: impl FnOnce(&mut Node<ByShifts>) -> T) -> T {
-        work(&mut self.node.lock().unwrap_or_else(PoisonError::into_inner))
+        work(&mut self.locked())
+    }
+
+    fn locked(&self) -> MutexGuard<'_, Node<ByShifts>> {
+        if let Ok(node) = self.node.try_lock() {
+            return node;
+        }
+        for _ in 0..TURNS {
+            thread::yield_now();
+            if let Ok(node) = self.node.try_lock() {
+                return node;
+            }
+        }
+        self.node.lock().unwrap_or_else(PoisonError::into_inner)
     }
 
     /// Takes the frames of a source, each as soon as it is released, as a datagram that comes into a buffer.

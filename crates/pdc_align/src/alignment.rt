@@ -10,7 +10,7 @@ ghost use Rattle.pdc_table.specs.Content.{HasSizesOf, IsContent};
 ghost use Rattle.pdc_table.specs.KeptRow.{popped_into};
 ghost use Rattle.pdc_table.specs.Placing.{row_at};
 ghost use Rattle.pdc_table.specs.pdc_open_row.Layout.{layout_view};
-ghost use Rattle.pdc_table.specs.pdc_open_row.Twin.{firsts};
+ghost use Rattle.pdc_table.specs.pdc_open_row.Twin.{lowest};
 ghost use Rattle.pdc_table.specs.pdc_open_row.Views.{OpenRowView};
 ghost use Rattle.pdc_table.specs.Steps as table;
 ghost use Rattle.pdc_arrival.specs.Views.{section_part};
@@ -148,14 +148,14 @@ impl<T: Table> Alignment<T> {
         self.layout.change
     }
 
-    /// The blocks that lane 0 of an open instant holds, where it holds one of each column: for a look whether those of a frame are the same. That
-    /// it tells them is left open.
+    /// The blocks that the lowest lane of an open instant holds which holds any, where it holds one of each column: for a look whether those of a
+    /// frame are the same. That it tells them is left open.
     #[inline(always)]
-    pub fn first_blocks(&self, instant: u64) -> Option<&RowBlocks>
-        ensures { IfSome result (λ blocks. option_map (λ (row : OpenRowView). firsts row.columns)
+    pub fn lowest_blocks(&self, instant: u64) -> Option<&RowBlocks>
+        ensures { IfSome result (λ blocks. option_map (λ (row : OpenRowView). lowest row.columns)
             (row_at instant self.now.state.content.open_rows) ≡ Some blocks.now) }
     {
-        self.table.first_blocks(instant)
+        self.table.lowest_blocks(instant)
     }
 
     /// How often, at a closing, both lanes of a column had present blocks that differed.

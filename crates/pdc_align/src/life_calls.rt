@@ -87,8 +87,8 @@ impl<T: Table> Alignment<T> {
         self.offer(stream, instant, cells, quality)
     }
 
-    /// The same, with blocks that lie one after the other in the payload of a frame. It may be known that they are those that lane 0 holds of
-    /// the instant.
+    /// The same, with blocks that lie one after the other in the payload of a frame. It may be known that they are those that the lowest lane holds
+    /// of the instant which holds any.
     pub fn put_parts<P: Part>(
         &mut self,
         stream: usize,

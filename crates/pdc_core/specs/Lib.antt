@@ -1,5 +1,4 @@
 pub mod Alike
-pub mod Brings
 pub mod Core
 pub mod Fits
 pub mod Said

@@ -115,7 +115,6 @@ impl Reads for Settings {
                     instant,
                     quality,
                     payload,
-                    frame: None,
                     claim: None,
                 }))
             }
@@ -157,9 +156,6 @@ impl Reads for MergerSettings {
         bytes: &'a [u8],
         kept: &mut KeptArrival,
     ) -> Result<Option<LentData<'a>>, AllocError> {
-        if stream == 0 {
-            return lend_checked(self, alloc, stream, bytes, kept);
-        }
         if let Some(data) = lend_claimed(self, stream, bytes, kept) {
             return Ok(Some(data));
         }
@@ -197,8 +193,6 @@ fn lend_checked<'a>(
                 instant,
                 quality,
                 payload,
-                // What goes out has the blocks of node A where they are present.
-                frame: if stream == 0 { Some(bytes) } else { None },
                 claim: None,
             }))
         }
@@ -220,8 +214,8 @@ fn lend_checked<'a>(
     }
 }
 
-/// Data of node B, lent, if what is kept has room for it. Its check word is not computed: mostly it follows from that of node A's frame, which
-/// brought the same blocks before.
+/// Data of a node, lent, if what is kept has room for it. Its check word is not computed: mostly it follows from that of the other node's frame,
+/// if that brought the same blocks before.
 #[inline(always)]
 fn lend_claimed<'a>(
     settings: &MergerSettings,
@@ -242,7 +236,6 @@ fn lend_claimed<'a>(
         instant: claimed.instant,
         quality: claimed.quality,
         payload: claimed.payload,
-        frame: None,
         claim: Some(claimed.claim),
     })
 }

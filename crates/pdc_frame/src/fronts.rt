@@ -1,32 +1,36 @@
-//! The front of a frame that was read, and its check word.
-ghost use Rattle.std.specs.Prelude.{◌≡◌, ◌+◌, ◌-◌, ◌<◌, ◌*◌, ◌++◌, IfNone, IfSome, drop, length, take};
+//! The front of a frame whose check word was found to be right.
+ghost use Rattle.std.specs.Prelude.{◌≡◌, ◌-◌, ◌<◌, ◌++◌, IfNone, IfSome, drop, length, true};
 ghost use Rattle.pdc_words.specs.CheckWord.{check_word_of};
 ghost use Rattle.pdc_words.specs.declared.fronts.TheConstants.{FRONT_LEN};
-ghost use Rattle.pdc_frame.specs.Frame.{Fields, IsFrame, check_in};
-ghost use Rattle.pdc_frame.specs.declared.limits.TheConstants.{CHECK_LEN, HEADER_LEN};
+ghost use Rattle.pdc_frame.specs.Claim.{is_right};
+ghost use Rattle.pdc_frame.specs.declared.limits.TheConstants.{HEADER_LEN};
 
-use crate::limits::CHECK_LEN;
-use pdc_words::{CheckedFront, FRONT_LEN, read_word};
+use crate::claim::Claim;
+use crate::limits::HEADER_LEN;
+use pdc_words::{CheckedFront, FRONT_LEN};
 
-/// The first 28 bytes and what stands in the place of CHK, if these bytes have room for both.
-#[inline(always)]
-pub fn front_of(bytes: &[u8]) -> Option<CheckedFront>
-    ensures front { IfSome result (λ known. (known.bytes ≡ take FRONT_LEN bytes.now)
-        × (known.check ≡ check_in bytes.now)) }
-    ensures none { IfNone result (length bytes.now < FRONT_LEN + CHECK_LEN) }
-    // In a frame it is the check word of the front and what stands behind it before CHK.
-    ensures frame { (f : Fields) → IsFrame bytes.now f →
-        IfSome result (λ known. known.check ≡
-        check_word_of (known.bytes ++ drop (FRONT_LEN - HEADER_LEN) f.payload)) }
-{
-    if bytes.len() < FRONT_LEN + CHECK_LEN {
-        return None;
+/// The bytes of a front that stand in the payload.
+const OWN_LEN: usize = FRONT_LEN - HEADER_LEN;
+
+impl Claim {
+    /// What stands before the payload with the first 14 bytes of that, and the check word, if the payload has as many.
+    #[inline(always)]
+    pub fn front(&self, payload: &[u8]) -> Option<CheckedFront>
+        // Where the check word is right, it is that of the front and what stands behind it in the payload.
+        ensures front { is_right self.now payload.now ≡ true → IfSome result (λ known.
+            known.check ≡ check_word_of (known.bytes ++ drop (FRONT_LEN - HEADER_LEN) payload.now)) }
+        ensures none { IfNone result (length payload.now < FRONT_LEN - HEADER_LEN) }
+    {
+        let Some(own) = payload.first_chunk::<OWN_LEN>() else {
+            return None;
+        };
+        let mut bytes = [0; FRONT_LEN];
+        let (header, rest) = bytes.split_at_mut(HEADER_LEN);
+        header.copy_from_slice(&self.header);
+        rest.copy_from_slice(own);
+        Some(CheckedFront {
+            bytes,
+            check: self.check,
+        })
     }
-    let Some(front) = bytes.first_chunk::<FRONT_LEN>() else {
-        return None;
-    };
-    Some(CheckedFront {
-        bytes: *front,
-        check: read_word(bytes, bytes.len() - CHECK_LEN),
-    })
 }

@@ -49,7 +49,6 @@ pub use command_laws::{commands_are_read_in_one_way, headers_are_read_in_one_way
 pub use fault::FrameFault;
 pub use frame::{Frame, Kind};
 pub use framer::Framer;
-pub use fronts::front_of;
 pub use header::{MAX_TEXT, read_header, write_header};
 pub use id::StreamId;
 pub use laws::{

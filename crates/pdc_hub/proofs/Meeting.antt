@@ -1,5 +1,5 @@
 -- Once all receivers and who aligns have met: one life, in which each stream brought what its receiver handed in.
-use Rattle.std.proofs.Common.{if◌then◌else◌, arith, ◌≡◌, ◌==◌, ◌≤◌, ◌<◌, ◌⊎◌, ⊎_elim, inl, inr, ℕ, zero, suc, Bool, true, false, ◌+◌, List, [], ◌∷◌, ◌++◌, length, Option, Some, refl, sym, ap, ◌∙◌, subst, length-append}
+use Rattle.std.proofs.Common.{if◌then◌else◌, arith, ◌≡◌, ◌==◌, ◌≤◌, ◌<◌, ◌⊎◌, ⊎_elim, inl, inr, ℕ, zero, suc, Bool, true, false, ◌+◌, List, [], ◌∷◌, ◌++◌, length, Option, Some, refl, sym, subst, length-append}
 use Rattle.std.proofs.lemmas.Bool.Decides.{nat_tests}
 use mathlib.Core.List.{IsPrefix}
 use Rattle.pdc_life.specs.Answer.{IsLife, ReadStep, Rules, ToArrive, ToPop, ToTick, answered, life_from}

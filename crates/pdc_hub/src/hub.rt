@@ -34,9 +34,10 @@ use pdc_mark::Mark;
 use pdc_ports::Numbered;
 use std::alloc::{AllocError, Global};
 use std::sync::{Mutex, MutexGuard, OnceLock, OnceToken, Wait};
+use std::thread;
 
-/// How often the lock is tried before a thread sleeps until it is free.
-const TRIES: u32 = 100;
+/// How often a thread that finds the lock held lets another one run, before it sleeps until the lock is free.
+const TURNS: u32 = 8;
 
 /// The lock round a core, and beside it whether no more is to be delivered. Each call but [`Hub::closed`] takes the lock once, and may
 /// wait for it.
@@ -118,11 +119,22 @@ impl<C: Core + Drop, N: Naming<C::Settings>> Hub<C, N> {
         ))
     }
 
-    /// Takes the lock. For a datagram it is held for less than a microsecond, so it is tried some times before the thread sleeps. A tick, a layout
-    /// or a base that is brought up hold it longer.
+    /// Takes the lock. For a datagram it is held for less than a microsecond, so a thread that finds it held lets others run some times before
+    /// it sleeps: who sleeps has to be woken by a call of the system, for which who woke it waits. It does not turn at the lock, since
+    /// each look takes the lock's memory from who holds it. A tick, a layout or a base that is brought up hold it longer.
     #[inline(always)]
     fn locked<R: Wait>(&self, rt: &R) -> MutexGuard<'_, LockedCore<C, N>> {
-        for _ in 0..TRIES {
+        if let Some(guard) = self.table.try_lock() {
+            return guard;
+        }
+        self.locked_in_turn(rt)
+    }
+
+    /// The same where it is held. A call of its own, since it is seldom.
+    #[inline(never)]
+    fn locked_in_turn<R: Wait>(&self, rt: &R) -> MutexGuard<'_, LockedCore<C, N>> {
+        for _ in 0..TURNS {
+            thread::yield_now();
             if let Some(guard) = self.table.try_lock() {
                 return guard;
             }

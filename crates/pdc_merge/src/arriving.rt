@@ -1,5 +1,5 @@
 //! How the merger answers what comes of a node.
-ghost use Rattle.std.specs.Prelude.{◌≡◌, ◌<◌, ◌∷◌, ◌++◌, ℕ, List, drop};
+ghost use Rattle.std.specs.Prelude.{◌≡◌, ◌<◌, ◌∷◌, ◌++◌, ℕ, List, drop, true};
 ghost use Rattle.pdc_table.specs.Placing.{row_at};
 ghost use Rattle.pdc_table.specs.pdc_open_row.Twin.{IsTwinIn, twin_of};
 ghost use Rattle.std.specs.Option.{ForSome};
@@ -98,7 +98,7 @@ impl<T: Table> Merger<T> {
             (row_at instant self.old.state.content.open_rows) }
         ensures same { self.new ≡ self.old }
     {
-        match self.alignment.first_blocks(instant) {
+        match self.alignment.lowest_blocks(instant) {
             Some(blocks) => check_beside(claim, payload, blocks, &mut self.difference),
             None => Beside {
                 is_right: claim.is_right(payload),
@@ -132,7 +132,15 @@ impl<T: Table> Merger<T> {
     {
         let seen = self.check(instant, payload, claim);
         if seen.is_right {
-            self.arrive_data(stream, instant, quality, payload, None, seen.is_same)
+            let sent = front_of_other(claim, payload, seen.is_same);
+            self.arrive_data(
+                stream,
+                instant,
+                quality,
+                payload,
+                sent.as_ref(),
+                seen.is_same,
+            )
         } else {
             self.arrive_refused(Refusal::NoFrame(FrameFault::BadCheck))
         }
@@ -146,12 +154,9 @@ impl<T: Table> Merger<T> {
         instant: u64,
         quality: u8,
         payload: &[u8],
-        sent: Option<&CheckedFront>,
         claim: &Option<Claim>,
     ) -> Outcome
         requires stream { stream < 2 }
-        requires sent { ForSome sent (λ known. known.now.check ≡
-            check_word_of (known.now.bytes ++ drop 14 payload.now)) }
         ensures answer { (g : Given) (E : List Entry) → StandsFor g E self.old →
             result ≡ (merged_answer g E stream
             (data_view instant quality payload.now claim.now)).outcome }
@@ -166,8 +171,19 @@ impl<T: Table> Merger<T> {
         ensures memory { self.new.memory ≡ self.old.memory }
     {
         match claim {
-            None => self.arrive_data(stream, instant, quality, payload, sent, false),
+            None => self.arrive_data(stream, instant, quality, payload, None, false),
             Some(claim) => self.arrive_claimed(stream, instant, quality, payload, claim),
         }
     }
+}
+
+/// The front and the check word of a frame whose check word is right, unless its blocks are those of the other node's frame: then what goes out
+/// follows from that one.
+#[inline(always)]
+fn front_of_other(claim: &Claim, payload: &[u8], is_same: bool) -> Option<CheckedFront>
+    requires { is_right claim.now payload.now ≡ true }
+    ensures { ForSome result (λ known. known.check ≡
+        check_word_of (known.bytes ++ drop 14 payload.now)) }
+{
+    if is_same { None } else { claim.front(payload) }
 }

@@ -187,13 +187,11 @@ impl<T: Table> Core for Merger<T> {
 
     /// Data is answered as it was read, with no [`Arrival`] between.
     fn arrive_lent(&mut self, stream: usize, lent: &LentData<'_>) -> Outcome {
-        let sent = lent.sent();
         self.arrive_read(
             stream,
             lent.instant,
             lent.quality,
             lent.payload,
-            sent.as_ref(),
             &lent.claim,
         )
     }

@@ -127,6 +127,9 @@ one_alone q h f s x e = rw e refl
 one_twin : (q : ℕ) (h : Held) (f x : BlockView) → h.alike ≡ false → with_cell 0 (Some (record { block = x; quality = q })) (column_of h f x) ≡ column_of (record (with_first q h) { alike = true }) x x
 one_twin q h f x e = rw e refl
 
+one_behind : (lane q : ℕ) (h : Held) (f s x : BlockView) → eqb lane 0 ≡ false → h.first ≡ false → with_cell lane (Some (record { block = x; quality = q })) (column_of h f s) ≡ column_of (with_second q true h) x s
+one_behind lane q h f s x e a = rw (e, a) refl
+
 -- into lane 0, where lane 1 holds nothing
 pub first_alone : (q n : ℕ) (h : Held) (fs ss bs : List BlockView) → h.second ≡ false → length fs ≡ n → length ss ≡ n → length bs ≡ n → each_with 0 (cells_with q bs) (columns_of (replicate n h) fs ss) ≡ columns_of (replicate n (with_first q h)) bs ss
 first_alone q zero h [] [] [] e a b c = refl
@@ -151,6 +154,15 @@ first_twin q (suc n) h (f ∷ fs) (x ∷ bs) e a b =
     ap (λ column. column ∷ each_with 0 (cells_with q bs) (columns_of (replicate n h) fs bs)) (one_twin q h f x e)
     ∙ ap (λ columns. column_of (record (with_first q h) { alike = true }) x x ∷ columns) (first_twin q n h fs bs e (omega (arith, a)) (omega (arith, b)))
 
+-- into lane 0, where they stand there
+pub first_joined : (q n : ℕ) (h : Held) (fs ss : List BlockView) → length fs ≡ n → length ss ≡ n → each_with 0 (cells_with q fs) (columns_of (replicate n h) fs ss) ≡ columns_of (replicate n (with_first q h)) fs ss
+first_joined q zero h [] [] a b = refl
+first_joined q zero h (f ∷ fs) ss a b = absurd (omega (arith, a))
+first_joined q zero h [] (s ∷ ss) a b = absurd (omega (arith, b))
+first_joined q (suc n) h [] ss a b = absurd (omega (arith, a))
+first_joined q (suc n) h (f ∷ fs) [] a b = absurd (omega (arith, b))
+first_joined q (suc n) h (f ∷ fs) (s ∷ ss) a b = ap (λ columns. column_of (with_first q h) f s ∷ columns) (first_joined q n h fs ss (omega (arith, a)) (omega (arith, b)))
+
 -- into lane 1, where lane 0 has the same blocks
 pub second_twin : (lane q n : ℕ) (h : Held) (fs ss : List BlockView) → eqb lane 0 ≡ false → length fs ≡ n → length ss ≡ n → each_with lane (cells_with q fs) (columns_of (replicate n h) fs ss) ≡ columns_of (replicate n (with_second q true h)) fs ss
 second_twin lane q zero h [] [] e a b = refl
@@ -159,6 +171,19 @@ second_twin lane q zero h [] (s ∷ ss) e a b = absurd (omega (arith, b))
 second_twin lane q (suc n) h [] ss e a b = absurd (omega (arith, a))
 second_twin lane q (suc n) h (f ∷ fs) [] e a b = absurd (omega (arith, b))
 second_twin lane q (suc n) h (f ∷ fs) (s ∷ ss) e a b = rw (e, second_twin lane q n h fs ss e (omega (arith, a)) (omega (arith, b))) refl
+
+-- into lane 1, where lane 0 holds nothing, and they get its places
+pub second_alone : (lane q n : ℕ) (h : Held) (fs ss bs : List BlockView) → eqb lane 0 ≡ false → h.first ≡ false → length fs ≡ n → length ss ≡ n → length bs ≡ n → each_with lane (cells_with q bs) (columns_of (replicate n h) fs ss) ≡ columns_of (replicate n (with_second q true h)) bs ss
+second_alone lane q zero h [] [] [] e f a b c = refl
+second_alone lane q zero h fs ss (x ∷ bs) e f a b c = absurd (omega (arith, c))
+second_alone lane q zero h (y ∷ fs) ss [] e f a b c = absurd (omega (arith, a))
+second_alone lane q zero h [] (s ∷ ss) [] e f a b c = absurd (omega (arith, b))
+second_alone lane q (suc n) h [] ss bs e f a b c = absurd (omega (arith, a))
+second_alone lane q (suc n) h (y ∷ fs) [] bs e f a b c = absurd (omega (arith, b))
+second_alone lane q (suc n) h (y ∷ fs) (s ∷ ss) [] e f a b c = absurd (omega (arith, c))
+second_alone lane q (suc n) h (y ∷ fs) (s ∷ ss) (x ∷ bs) e f a b c =
+    ap (λ column. column ∷ each_with lane (cells_with q bs) (columns_of (replicate n h) fs ss)) (one_behind lane q h y s x e f)
+    ∙ ap (λ columns. column_of (with_second q true h) x s ∷ columns) (second_alone lane q n h fs ss bs e f (omega (arith, a)) (omega (arith, b)) (omega (arith, c)))
 
 -- into lane 1, where they get its own places
 pub second_own : (lane q n : ℕ) (h : Held) (fs ss bs : List BlockView) → eqb lane 0 ≡ false → length fs ≡ n → length ss ≡ n → length bs ≡ n → each_with lane (cells_with q bs) (columns_of (replicate n h) fs ss) ≡ columns_of (replicate n (with_second q false h)) fs bs
@@ -217,6 +242,26 @@ whole_second_twin column shape parts lane q bytes hs vs h fs ss now l w e seen o
     (ap (λ (bs : List BlockView). each_with lane (cells_with q bs) (columns_of (replicate (length hs) h) fs ss)) same
     ∙ second_twin lane q (length hs) h fs ss l a d
     ∙ ap (λ (xs : List Held). columns_of xs fs ss) (sym filled))
+
+pub whole_first_joined : {P : Type 0} → (column : P → ℕ) (shape : P → Shape) (parts : List P) (q : ℕ) (bytes : List ℕ) (hs vs : List Held) (h : Held) (fs ss : List BlockView) (now : List ColumnView)
+    → WordsAreCut → are_laid_out column shape parts (shapes_of fs) 0 ≡ true → columns_of hs fs ss ≡ now → hs ≡ replicate (length hs) h → length fs ≡ length hs → length ss ≡ length hs
+    → blocks_in (shapes_of fs) bytes ≡ fs → vs ≡ replicate (length hs) (with_first q h) → columns_of vs fs ss ≡ with_cells 0 (cut_cells column shape parts q (words_in bytes)) now
+whole_first_joined column shape parts q bytes hs vs h fs ss now w e seen one a d same filled =
+    whole column shape parts (shapes_of fs) 0 q bytes hs h fs ss now (columns_of vs fs ss) w e seen one (as_many fs bytes (length hs) a) a d
+    (ap (λ (bs : List BlockView). each_with 0 (cells_with q bs) (columns_of (replicate (length hs) h) fs ss)) same
+    ∙ first_joined q (length hs) h fs ss a d
+    ∙ ap (λ (xs : List Held). columns_of xs fs ss) (sym filled))
+
+pub whole_second_alone : {P : Type 0} → (column : P → ℕ) (shape : P → Shape) (parts : List P) (lane q : ℕ) (bytes : List ℕ) (hs vs : List Held) (h : Held) (fs ss ws : List BlockView) (now : List ColumnView)
+    → eqb lane 0 ≡ false → WordsAreCut → are_laid_out column shape parts (shapes_of fs) 0 ≡ true → columns_of hs fs ss ≡ now → hs ≡ replicate (length hs) h → length fs ≡ length hs → length ss ≡ length hs
+    → h.first ≡ false → ws ≡ blocks_in (shapes_of fs) bytes → vs ≡ replicate (length hs) (with_second q true h) → columns_of vs ws ss ≡ with_cells lane (cut_cells column shape parts q (words_in bytes)) now
+whole_second_alone column shape parts lane q bytes hs vs h fs ss ws now l w e seen one a d empty written filled =
+    let bs : List BlockView = blocks_in (shapes_of fs) bytes in
+    let b : length bs ≡ length hs = as_many fs bytes (length hs) a in
+    whole column shape parts (shapes_of fs) lane q bytes hs h fs ss now (columns_of vs ws ss) w e seen one b a d
+    (second_alone lane q (length hs) h fs ss bs l empty a d b
+    ∙ ap (λ (xs : List BlockView). columns_of (replicate (length hs) (with_second q true h)) xs ss) (sym written)
+    ∙ ap (λ (xs : List Held). columns_of xs ws ss) (sym filled))
 
 pub whole_second_own : {P : Type 0} → (column : P → ℕ) (shape : P → Shape) (parts : List P) (lane q : ℕ) (bytes : List ℕ) (hs vs : List Held) (h : Held) (fs ss ws : List BlockView) (now : List ColumnView)
     → eqb lane 0 ≡ false → WordsAreCut → are_laid_out column shape parts (shapes_of ss) 0 ≡ true → columns_of hs fs ss ≡ now → hs ≡ replicate (length hs) h → length fs ≡ length hs → length ss ≡ length hs

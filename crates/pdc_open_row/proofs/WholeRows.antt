@@ -3,17 +3,16 @@ use Rattle.std.proofs.Common.{◌≡◌, ◌∙◌, ◌+◌, ◌%◌, ◌<◌, �
 use Rattle.std.specs.Prelude.{max, option_map}
 use Rattle.std.specs.Option.{option_to_list}
 use Rattle.std.specs.Cmp.Lexicographic.{pointwise, same_text}
-use Rattle.std.proofs.lemmas.Bool.{false≢true}
 use Rattle.std.proofs.lemmas.List.{drop_all, length-map, take_all}
 use Rattle.pdc_row.specs.pdc_cfg.declared.shape.Shape.{Shape}
-use Rattle.pdc_row.specs.CellView.{BlockView, CellView, absent_of, absent_view, is_present}
-use Rattle.pdc_row.specs.Chosen.{block_or_absent, first_of, present_of}
+use Rattle.pdc_row.specs.CellView.{BlockView, absent_of, absent_view, is_present}
+use Rattle.pdc_row.specs.Chosen.{block_or_absent}
 use Rattle.pdc_row.specs.KeptBlocks.{shapes_of}
 use Rattle.pdc_row.specs.Quality.{greatest, quality_of, time_quality_of}
 use Rattle.pdc_open_row.specs.Chosen.{block_in, chosen_of}
-use Rattle.pdc_open_row.specs.OpenRowParts.{column_of, columns_of, nothing}
+use Rattle.pdc_open_row.specs.OpenRowParts.{GivesHere, column_of, columns_of, nothing}
 use Rattle.pdc_open_row.specs.Row.{blocks_of, qualities_at, qualities_of}
-use Rattle.pdc_open_row.specs.Views.{ColumnView, empty_column, kept}
+use Rattle.pdc_open_row.specs.Views.{ColumnView, empty_column}
 use Rattle.pdc_open_row.specs.declared.column.Held.{Held}
 use Rattle.pdc_open_row.proofs.OpenRowParts.{column_at}
 use Rattle.pdc_open_row.proofs.RowSteps.{qualities_step}
@@ -96,21 +95,6 @@ whole_qualities hs fs ss i d shape l h k =
 
 -- ---- the same is held of each column, and lane 1 has nothing else
 
-one_or_none : (b : Bool) (c : CellView) → first_of (cond b (Some c) None) None ≡ cond b (Some c) None
-one_or_none true c = refl
-one_or_none false c = refl
-
-one_of_two : (b : Bool) (c d : CellView) → first_of (cond b (Some c) None) (cond b (Some d) None) ≡ cond b (Some c) None
-one_of_two true c d = refl
-one_of_two false c d = refl
-
-chosen_once : (is_first is_second alike : Bool) (f s : BlockView) (q r : ℕ) → is_first ≡ true → (alike ≡ false → is_second ≡ false)
-    → first_of (present_of (kept is_first (record { block = f; quality = q }))) (present_of (kept is_second (record { block = cond alike f s; quality = r }))) ≡ cond (is_present f) (Some (record { block = f; quality = q })) None
-chosen_once false is_second alike f s q r e a = absurd (false≢true e)
-chosen_once true false alike f s q r e a = one_or_none (is_present f) (record { block = f; quality = q })
-chosen_once true true true f s q r e a = one_of_two (is_present f) (record { block = f; quality = q }) (record { block = f; quality = r })
-chosen_once true true false f s q r e a = absurd (true≢false (a refl))
-
 -- the block of a column is then that of lane 0, also where it is the absent one
 kept_or_absent : (b : Bool) (f : BlockView) (q : ℕ) → (b ≡ false → absent_view f.shape ≡ f) → block_or_absent f.shape (cond b (Some (record { block = f; quality = q })) None) ≡ f
 kept_or_absent true f q absent = refl
@@ -125,15 +109,13 @@ is_absent f e =
     let words : f.words ≡ absent_of f.shape = same_text f.words (absent_of f.shape) (sym (not_other (pointwise nat_eq f.words (absent_of f.shape)) e)) in
     λ i. record { shape = f.shape; words = sym words i }
 
-block_once : (h : Held) (f s : BlockView) → h.first ≡ true → (h.alike ≡ false → h.second ≡ false) → block_in f.shape (column_of h f s) ≡ f
-block_once h f s e a =
-    ap (block_or_absent f.shape) (chosen_once h.first h.second h.alike f s h.first_quality h.second_quality e a)
-    ∙ kept_or_absent (is_present f) f h.first_quality (is_absent f)
+block_once : (h : Held) (q : ℕ) (f s : BlockView) → GivesHere h q → block_in f.shape (column_of h f s) ≡ f
+block_once h q f s g = ap (block_or_absent f.shape) (g f s) ∙ kept_or_absent (is_present f) f q (is_absent f)
 
-pub blocks_once : (h : Held) (fs ss : List BlockView) → length ss ≡ length fs → h.first ≡ true → (h.alike ≡ false → h.second ≡ false) → blocks_of (map Some (shapes_of fs)) (columns_of (replicate (length fs) h) fs ss) ≡ fs
-blocks_once h [] ss k e a = refl
-blocks_once h (f ∷ fs) [] k e a = absurd (omega (arith, k))
-blocks_once h (f ∷ fs) (s ∷ ss) k e a = rw (block_once h f s e a, blocks_once h fs ss (omega (arith, k)) e a) refl
+pub blocks_once : (h : Held) (q : ℕ) (fs ss : List BlockView) → length ss ≡ length fs → GivesHere h q → blocks_of (map Some (shapes_of fs)) (columns_of (replicate (length fs) h) fs ss) ≡ fs
+blocks_once h q [] ss k g = refl
+blocks_once h q (f ∷ fs) [] k g = absurd (omega (arith, k))
+blocks_once h q (f ∷ fs) (s ∷ ss) k g = rw (block_once h q f s g, blocks_once h q fs ss (omega (arith, k)) g) refl
 
 -- the quality of each block that is present
 abbrev pub of_present : ℕ → List BlockView → List ℕ
@@ -144,14 +126,14 @@ quality_once : (b : Bool) (f : BlockView) (q : ℕ) → option_map time_quality_
 quality_once true f q = refl
 quality_once false f q = refl
 
-pub qualities_once : (h : Held) (fs ss : List BlockView) → length ss ≡ length fs → h.first ≡ true → (h.alike ≡ false → h.second ≡ false) → qualities_of (map Some (shapes_of fs)) (columns_of (replicate (length fs) h) fs ss) ≡ of_present (h.first_quality % 16) fs
-qualities_once h [] ss k e a = refl
-qualities_once h (f ∷ fs) [] k e a = absurd (omega (arith, k))
-qualities_once h (f ∷ fs) (s ∷ ss) k e a =
-    let own : option_map time_quality_of (chosen_of (column_of h f s)) ≡ cond (is_present f) (Some (h.first_quality % 16)) None =
-    ap (option_map time_quality_of) (chosen_once h.first h.second h.alike f s h.first_quality h.second_quality e a) ∙ quality_once (is_present f) f h.first_quality in
+pub qualities_once : (h : Held) (q : ℕ) (fs ss : List BlockView) → length ss ≡ length fs → GivesHere h q → qualities_of (map Some (shapes_of fs)) (columns_of (replicate (length fs) h) fs ss) ≡ of_present (q % 16) fs
+qualities_once h q [] ss k g = refl
+qualities_once h q (f ∷ fs) [] k g = absurd (omega (arith, k))
+qualities_once h q (f ∷ fs) (s ∷ ss) k g =
+    let own : option_map time_quality_of (chosen_of (column_of h f s)) ≡ cond (is_present f) (Some (q % 16)) None =
+    ap (option_map time_quality_of) (g f s) ∙ quality_once (is_present f) f q in
     ap (λ o. option_to_list o ++ qualities_of (map Some (shapes_of fs)) (columns_of (replicate (length fs) h) fs ss)) own
-    ∙ ap (λ qs. option_to_list (cond (is_present f) (Some (h.first_quality % 16)) None) ++ qs) (qualities_once h fs ss (omega (arith, k)) e a)
+    ∙ ap (λ qs. option_to_list (cond (is_present f) (Some (q % 16)) None) ++ qs) (qualities_once h q fs ss (omega (arith, k)) g)
 
 same_max : (n : ℕ) → max n n ≡ n
 same_max n = omega arith

@@ -1,6 +1,7 @@
 -- What the lists of an open row show together: which lanes hold a cell, and the blocks of each lane.
-use Rattle.std.specs.Prelude.{ℕ, zero, suc, ◌==◌, false, if◌then◌else◌, List, [], ◌∷◌, Option, Some, None}
-use Rattle.pdc_row.specs.CellView.{BlockView, CellView, body_view}
+use Rattle.std.specs.Prelude.{◌≡◌, ℕ, zero, suc, ◌==◌, false, if◌then◌else◌, List, [], ◌∷◌, Option, Some, None}
+use Rattle.pdc_row.specs.CellView.{BlockView, CellView, body_view, is_present}
+use Rattle.pdc_open_row.specs.Chosen.{chosen_of}
 use Rattle.pdc_open_row.specs.Views.{ColumnView, kept}
 use Rattle.pdc_open_row.specs.declared.column.Chosen.{Chosen}
 use Rattle.pdc_open_row.specs.declared.column.Held.{Held}
@@ -27,6 +28,10 @@ column_of held first second = record {
   first = kept held.first (record { block = first; quality = held.first_quality });
   second = kept held.second (record { block = block_of_second held first second; quality = held.second_quality });
 }
+
+-- Whatever blocks stand in the lanes, the column gives the one of lane 0, with this time quality byte, if it is present, and else none.
+abbrev pub GivesHere : Held → (quality : ℕ) → Type 0
+GivesHere held quality = (first second : BlockView) → chosen_of (column_of held first second) ≡ (if is_present first then Some (record { block = first; quality = quality }) else None)
 
 -- the columns, where each list has one part of every column
 abbrev pub columns_of : List Held → (first second : List BlockView) → List ColumnView

@@ -13,7 +13,7 @@ pub trait Blocks {
     // The cells that they make, with the time quality byte of the frame.
     ghost cells: { Self → ℕ → List (ℕ × CellView) };
 
-    // Their bytes, where it is known that these are those of the blocks that lane 0 holds.
+    // Their bytes, where it is known that these are those of the blocks that the lowest lane holds which holds any.
     ghost twin: { Self → Option (List ℕ) };
 
     /// Puts copies of them into their columns, in this lane. They are alone where it is known that the lane is 0, and that no column holds

@@ -1,12 +1,12 @@
 //! What was taken of one column at one instant, lane by lane. Which lanes hold a cell stands apart from the blocks, so that a
 //! look at what is held reads no block.
 ghost use Rattle.std.specs.Prelude.{◌≡◌, ◌≤◌, ◌<◌, ℕ, false, length, map, option_map, true, Some};
-ghost use Rattle.std.specs.Prelude.{slice_index_or, slice_set};
+ghost use Rattle.std.specs.Prelude.{IfSome, slice_index_or, slice_set};
 ghost use Rattle.pdc_row.specs.CellView.{BlockView, same_block};
 ghost use Rattle.pdc_row.specs.Chosen.{present_of};
 ghost use Rattle.pdc_open_row.specs.Chosen.{are_different, chosen_of, disagreement_at};
 ghost use Rattle.pdc_open_row.specs.OpenRowParts.{block_of_second, chosen_view, column_of, nothing};
-ghost use Rattle.pdc_open_row.specs.OpenRowParts.{without_lane};
+ghost use Rattle.pdc_open_row.specs.OpenRowParts.{GivesHere, without_lane};
 ghost use Rattle.pdc_open_row.specs.Taking.{cell_in, holds_other, with_cell};
 
 use pdc_row::{Body, Offered, RowBlocks, Shape};
@@ -66,13 +66,18 @@ impl Held {
         if self.alike { first } else { second }
     }
 
-    /// Whether lane 0 holds a cell, and lane 1 no other block.
+    /// The time quality byte with which the column gives the block that stands in lane 0, where it gives no other: if that is present.
     #[inline(always)]
-    pub(crate) fn gives_first(self) -> bool
-        ensures first { result ≡ true → self.first ≡ true }
-        ensures second { result ≡ true → self.alike ≡ false → self.second ≡ false }
+    pub(crate) fn gives_here(self) -> Option<u8>
+        ensures { IfSome result (GivesHere self) }
     {
-        self.first && (self.alike || !self.second)
+        if self.first && (self.alike || !self.second) {
+            Some(self.first_quality)
+        } else if self.second && self.alike && !self.first {
+            Some(self.second_quality)
+        } else {
+            None
+        }
     }
 
     /// The block of the lowest lane whose block is present, of the column at this place.

@@ -32,7 +32,7 @@ pub use parts::{Cut, Part};
 pub use pdc_memory::{Held, HeldBox, HeldQueue};
 pub use pdc_row::{
     Block, Body, CheckedFront, CopyFrom, DueRow, KnownFront, MAX_WINDOW, MIN_WINDOW, RowBlocks,
-    Shape, Shapes, copy_block, copy_each, front_of, numbers_rise, words_are_cut,
+    Shape, Shapes, copy_block, copy_each, numbers_rise, words_are_cut,
 };
 pub use row_blocks::WORST_QUALITY;
 pub use row_layout::RowLayout;

@@ -11,7 +11,7 @@ ghost use Rattle.pdc_open_row.specs.Row.{blocks_of, qualities_of, row_of};
 ghost use Rattle.pdc_open_row.specs.Due.{all_taken, is_due};
 ghost use Rattle.pdc_open_row.specs.Taking.{HaveColumns, answer_at, conflicts, is_taken};
 ghost use Rattle.pdc_open_row.specs.Taking.{with_frame, without_column, without_stream};
-ghost use Rattle.pdc_open_row.specs.Twin.{IsTwin, firsts};
+ghost use Rattle.pdc_open_row.specs.Twin.{IsTwin, lowest};
 ghost use Rattle.pdc_open_row.specs.Chosen.{disagreements_of};
 ghost use Rattle.pdc_open_row.specs.Layout.{layout_view};
 ghost use Rattle.pdc_open_row.specs.OpenRowParts.{worst_kept};
@@ -124,13 +124,13 @@ impl OpenRow {
         self.instant
     }
 
-    /// The blocks that lane 0 holds, where it holds one of each column and that is known of all at once: for a look whether those of a frame are
-    /// the same.
+    /// The blocks that the lowest lane holds which holds any, where it holds one of each column and that is known of all at once: for a look whether
+    /// those of a frame are the same.
     #[inline(always)]
-    pub fn first_blocks(&self) -> Option<&RowBlocks>
-        ensures { IfSome result (λ blocks. blocks.now ≡ firsts self.now.columns) }
+    pub fn lowest_blocks(&self) -> Option<&RowBlocks>
+        ensures { IfSome result (λ blocks. blocks.now ≡ lowest self.now.columns) }
     {
-        self.columns.first_blocks()
+        self.columns.lowest_blocks()
     }
 
     /// Takes a frame of the stream: its blocks go into their columns, in this lane.

@@ -42,7 +42,7 @@ pub struct Cut<'a, P: Part> {
     pub bytes: &'a [u8],
     /// The front and the check word of the frame in which they came, if they are known: they stand between the two.
     pub sent: Option<&'a CheckedFront>,
-    /// Whether it was seen that they are those that lane 0 holds of the instant for which they are put.
+    /// Whether it was seen that they are those that the lowest lane holds which holds any, of the instant for which they are put.
     pub is_twin: bool,
     pub ghost told: { option_map (λ shapes. shapes.now) laid ≡
         laid_out P.column_of P.shape_of parts.now },

@@ -9,7 +9,8 @@ ghost use Rattle.pdc_row.specs.KeptBlocks.{shapes_of};
 ghost use Rattle.pdc_row.specs.Quality.{quality_of, time_quality_of, worst_of};
 ghost use Rattle.pdc_open_row.specs.Chosen.{block_in, chosen_of};
 ghost use Rattle.pdc_open_row.specs.OpenRowParts.{chosen_view, column_of, columns_of, nothing};
-ghost use Rattle.pdc_open_row.specs.OpenRowParts.{worst_kept};
+ghost use Rattle.pdc_open_row.specs.OpenRowParts.{GivesHere, worst_kept};
+ghost use Rattle.pdc_open_row.specs.declared.column.Held.{Held as HeldData};
 ghost use Rattle.pdc_open_row.specs.Row.{blocks_of, qualities_of};
 
 use crate::MAX_COLUMNS;
@@ -58,19 +59,18 @@ pub fn quality_below(above: u32) -> u8
     }
 }
 
-/// The number above the quality of lane 0, where it has the same of each column and some block is present, else 0: lane 1 then gives nothing
-/// else.
-pub fn worst_of_one(held: Held, first: &RowBlocks) -> u32
-    requires first { held.first ≡ true }
-    ensures value { (second : List BlockView) → length second ≡ length first.now →
-        (held.alike ≡ false → held.second ≡ false) → worst_of (worst_kept result) [] ≡
+/// The number above the quality of a row, where each column gives the block that stands in lane 0, with this time quality byte, and no other:
+/// 0 where none is present.
+pub fn worst_of_one(quality: u8, first: &RowBlocks) -> u32
+    ensures value { (held : HeldData) (second : List BlockView) → GivesHere held quality →
+        length second ≡ length first.now → worst_of (worst_kept result) [] ≡
         quality_of (qualities_of (map Some (shapes_of first.now))
         (columns_of (replicate (length first.now) held) first.now second)) }
     ensures fits { result ≤ WORST_QUALITY + 1 }
 {
     for place in 0..first.len() {
         if first.is_present(place) {
-            return u32::from(held.first_quality % 16) + 1;
+            return u32::from(quality % 16) + 1;
         }
     }
     0
@@ -94,8 +94,37 @@ fn front_of_first(held: &Lanes, first: &RowBlocks) -> (usize, u32)
 {
     match held.apart() {
         Some(each) => front_of_each(each, first),
-        None => (0, 0),
+        None => front_of_all(held, first),
     }
+}
+
+/// The same where the same is held of each column.
+#[inline(always)]
+fn front_of_all(held: &Lanes, first: &RowBlocks) -> (usize, u32)
+    requires { length first.now ≡ length held.now }
+    ensures blocks { (second : List BlockView) → length second ≡ length held.now →
+        take result.0 (blocks_of (map Some (shapes_of first.now))
+        (columns_of held.now first.now second)) ++ drop result.0 first.now ≡ first.now }
+    ensures quality { (second : List BlockView) → length second ≡ length held.now →
+        worst_of (worst_kept result.1) (qualities_of (drop result.0
+        (map Some (shapes_of first.now))) (drop result.0 (columns_of held.now first.now second)))
+        ≡ quality_of (qualities_of (map Some (shapes_of first.now))
+        (columns_of held.now first.now second)) }
+    ensures most { result.0 ≤ length first.now }
+    ensures fits { result.1 ≤ WORST_QUALITY + 1 }
+{
+    let mut above = 0;
+    for place in 0..first.len() {
+        let here = held.at(place);
+        if !here.first {
+            return (place, above);
+        }
+        if !first.is_present(place) {
+            return (place, above);
+        }
+        above = worse(above, here.first_quality % 16);
+    }
+    (first.len(), above)
 }
 
 /// The same of a list of what is held of each column.

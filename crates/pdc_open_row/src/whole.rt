@@ -9,7 +9,7 @@ ghost use Rattle.pdc_open_row.specs.OpenRowParts.{columns_of, nothing, worst_kep
 ghost use Rattle.pdc_open_row.specs.Parts.{are_laid_out, cut_cells};
 ghost use Rattle.pdc_open_row.specs.Row.{blocks_of, qualities_of};
 ghost use Rattle.pdc_open_row.specs.Taking.{with_cells};
-ghost use Rattle.pdc_open_row.specs.Twin.{IsTwin, firsts, twin_of};
+ghost use Rattle.pdc_open_row.specs.Twin.{IsTwin, lowest, twin_of};
 ghost use Rattle.pdc_open_row.specs.Views.{empty_column};
 
 use crate::column::NOTHING;
@@ -33,10 +33,15 @@ impl Columns {
         ensures none { result ≡ false → self.new ≡ self.old }
     {
         if lane == 0 {
-            self.put_whole_first(cut, quality)
-        } else {
-            self.put_whole_second(lane, cut, quality)
+            if self.join_whole(cut, quality) {
+                return true;
+            }
+            return self.put_whole_first(cut, quality);
         }
+        if self.put_whole_alone(lane, cut, quality) {
+            return true;
+        }
+        self.put_whole_second(lane, cut, quality)
     }
 
     /// The same into lane 0.
@@ -74,6 +79,64 @@ impl Columns {
         true
     }
 
+    /// The same into lane 0, where what lane 1 brought stands there, and is the same: nothing is written, and where it is known that it is the same
+    /// it is not compared.
+    #[inline(always)]
+    fn join_whole<P: Part>(&mut self, cut: &Cut<'_, P>, quality: u8) -> bool
+        requires { IsTwin (twin_of cut.now.is_twin cut.now.bytes.now) self.old }
+        ensures whole { result ≡ true → self.new ≡ with_cells 0 (cut_cells P.column_of P.shape_of
+            cut.now.parts.now quality (words_in cut.now.bytes.now)) self.old }
+        ensures none { result ≡ false → self.new ≡ self.old }
+    {
+        words_are_cut();
+        let Some(mut held) = self.held.one() else {
+            return false;
+        };
+        if !held.second {
+            return false;
+        }
+        if !held.alike {
+            return false;
+        }
+        if held.first {
+            return false;
+        }
+        held.first = true;
+        held.first_quality = quality;
+        if !are_those_of(cut, cut.is_twin, &self.first.get().blocks) {
+            return false;
+        }
+        self.held.fill(held);
+        true
+    }
+
+    /// The same into lane 1, where lane 0 holds nothing: they are written to where its blocks would stand.
+    #[inline(always)]
+    fn put_whole_alone<P: Part>(&mut self, lane: usize, cut: &Cut<'_, P>, quality: u8) -> bool
+        requires lane { 0 < lane }
+        ensures whole { result ≡ true → self.new ≡ with_cells lane (cut_cells P.column_of P.shape_of
+            cut.now.parts.now quality (words_in cut.now.bytes.now)) self.old }
+        ensures none { result ≡ false → self.new ≡ self.old }
+    {
+        words_are_cut();
+        let Some(mut held) = self.held.one() else {
+            return false;
+        };
+        if held.first {
+            return false;
+        }
+        let first = &mut self.first.get_mut().blocks;
+        if !fits(cut.parts, cut.laid, first) {
+            return false;
+        }
+        held.second = true;
+        held.alike = true;
+        held.second_quality = quality;
+        first.write_over(cut.bytes, cut.sent);
+        self.held.fill(held);
+        true
+    }
+
     /// The same into lane 1: what lane 0 has is not written again, and where that is known it is not compared.
     #[inline(always)]
     fn put_whole_second<P: Part>(&mut self, lane: usize, cut: &Cut<'_, P>, quality: u8) -> bool
@@ -105,15 +168,24 @@ impl Columns {
         true
     }
 
-    /// The blocks of lane 0, where it is known of all columns at once that it holds them.
+    /// The blocks that stand in lane 0, where it is known of all columns at once that they are held: by lane 0, or else by lane 1.
     #[inline(always)]
-    pub(crate) fn first_blocks(&self) -> Option<&RowBlocks>
-        ensures { IfSome result (λ blocks. blocks.now ≡ firsts self.now) }
+    pub(crate) fn lowest_blocks(&self) -> Option<&RowBlocks>
+        ensures { IfSome result (λ blocks. blocks.now ≡ lowest self.now) }
     {
-        match self.held.one() {
-            Some(held) if held.first => Some(&self.first.get().blocks),
-            _ => None,
+        let Some(held) = self.held.one() else {
+            return None;
+        };
+        if held.first {
+            return Some(&self.first.get().blocks);
         }
+        if !held.second {
+            return None;
+        }
+        if !held.alike {
+            return None;
+        }
+        Some(&self.first.get().blocks)
     }
 
     /// Hands out the row of the blocks that the columns give, where all columns have shapes and lane 0 is laid out in them: what lane 0 does not
@@ -176,10 +248,12 @@ fn settle(held: &Lanes, first: &mut RowBlocks, second: &RowBlocks) -> u32
     ensures fits { result ≤ WORST_QUALITY + 1 }
     ensures len { length first.new ≡ length first.old }
 {
-    match held.one() {
-        Some(one) if one.gives_first() => worst_of_one(one, first),
-        _ => give_over(held, first, second),
+    if let Some(one) = held.one() {
+        if let Some(quality) = one.gives_here() {
+            return worst_of_one(quality, first);
+        }
     }
+    give_over(held, first, second)
 }
 
 /// Hands out the row whose blocks are those of lane 0, and keeps the one that was lent in its place. The columns hold nothing then.

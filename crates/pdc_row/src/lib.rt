@@ -45,8 +45,8 @@ pub use pdc_block::{
     FrameFault, FrontDifference, HEADER_LEN, Kind, MAX_SECTION_LEN, OVERHEAD, Section, SectionView,
     Shape, StreamId, append_words, begin_frame, bodies_are_their_words,
     configurations_are_read_in_one_way, end_frame, frames_are_read_in_one_way,
-    frames_are_written_in_parts, front_of, instant, instant_is_nearest, read_body, read_claimed,
-    read_config, read_frame, read_word, words_are_cut, write_config, write_ends, write_fields,
+    frames_are_written_in_parts, instant, instant_is_nearest, read_body, read_claimed, read_config,
+    read_frame, read_word, words_are_cut, write_config, write_ends, write_fields,
 };
 pub use present::is_present;
 pub use row_blocks::{MAX_BLOCKS_LEN, MAX_CUT, RowBlocks};

@@ -12,7 +12,7 @@ use Rattle.pdc_table.specs.RingRows.{StandAbove, base_row, changed, closed_rows,
 use Rattle.pdc_open_row.specs.Views.{OpenRowView, at_age, blank_row}
 use Rattle.pdc_table.specs.Steps.{disagreements_in}
 use Rattle.pdc_open_row.specs.Taking.{answer_at, is_taken, with_frame}
-use Rattle.pdc_open_row.specs.Twin.{IsTwin, IsTwinIn, firsts}
+use Rattle.pdc_open_row.specs.Twin.{IsTwin, IsTwinIn, lowest}
 use Rattle.pdc_table.specs.Content.{HasPlaces}
 use Rattle.pdc_open_row.specs.declared.outcome.PutOutcome.{PutOutcome}
 use Rattle.pdc_table.specs.Placing.{row_at}
@@ -171,11 +171,11 @@ aged_ring window last s k places ages is h e r = record {
 }
 
 -- the row of an open instant is that at its place, and so are the blocks of lane 0
-pub firsts_at : (window last s k i : ℕ) (places : List OpenRowView) (ages : List ℕ) (is : List ℕ) → 0 < window → length ages ≡ window → last < i → IsRing window last s k places is → (row_in places window i).instant ≡ i
-    → option_map (λ (row : OpenRowView). firsts row.columns) (row_at i (rows_in (with_ages places ages) window is)) ≡ Some (firsts (row_in places window i).columns)
-firsts_at window last s k i places ages is h a l r e =
+pub lowest_at : (window last s k i : ℕ) (places : List OpenRowView) (ages : List ℕ) (is : List ℕ) → 0 < window → length ages ≡ window → last < i → IsRing window last s k places is → (row_in places window i).instant ≡ i
+    → option_map (λ (row : OpenRowView). lowest row.columns) (row_at i (rows_in (with_ages places ages) window is)) ≡ Some (lowest (row_in places window i).columns)
+lowest_at window last s k i places ages is h a l r e =
     let row : OpenRowView = row_in places window i in
-    ap (option_map (λ (x : OpenRowView). firsts x.columns))
+    ap (option_map (λ (x : OpenRowView). lowest x.columns))
     (met_in window last s k i (with_ages places ages) is h l (aged_ring window last s k places ages is h a r)
     ∙ ap (met_row i) (aged_row places ages window i h r.size a)
     ∙ ap (λ here. if here then Some (at_age (get_or ages (i % window) 0) row) else None) (eq-eqb row.instant i e))

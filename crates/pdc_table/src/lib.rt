@@ -34,7 +34,7 @@ pub use laws::{
 pub use pdc_open_row::{
     Blocks, CheckedFront, CopyFrom, Cut, DueRow, HeldBox, KnownFront, Listed, MAX_COLUMNS,
     MAX_LANES, MAX_WINDOW, MIN_WINDOW, OpenRow, Part, Places, PutOutcome, RowBlocks, RowLayout,
-    Shapes, WaitRule, copy_block, copy_each, copy_items, falses, front_of,
+    Shapes, WaitRule, copy_block, copy_each, copy_items, falses,
 };
 pub use ring_table::RingTable;
 pub use spare::spare_row;

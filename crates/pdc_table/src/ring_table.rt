@@ -242,7 +242,7 @@ impl Table for RingTable {
     }
 
     #[inline(always)]
-    fn first_blocks(&self, instant: u64) -> Option<&RowBlocks> {
+    fn lowest_blocks(&self, instant: u64) -> Option<&RowBlocks> {
         if instant <= self.closed.last {
             return None;
         }
@@ -250,7 +250,7 @@ impl Table for RingTable {
         if row.instant() != instant {
             return None;
         }
-        row.first_blocks()
+        row.lowest_blocks()
     }
 
     fn next_due(&self) -> Option<u64> {

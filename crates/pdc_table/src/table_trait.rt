@@ -15,7 +15,7 @@ ghost use Rattle.pdc_table.specs.Steps.{after_put, after_require, after_tick, cl
 ghost use Rattle.pdc_table.specs.Steps.{disagreements_after, next_answer, pop_answer, put_answer};
 ghost use Rattle.pdc_table.specs.Steps.{shape_of, shapes_given, tick_answer, whole_answer};
 ghost use Rattle.pdc_open_row.specs.Taking.{body_cells_of, cells_of};
-ghost use Rattle.pdc_open_row.specs.Twin.{IsTwinIn, firsts, twin_of};
+ghost use Rattle.pdc_open_row.specs.Twin.{IsTwinIn, lowest, twin_of};
 ghost use Rattle.pdc_open_row.specs.Views.{OpenRowView};
 ghost use Rattle.pdc_table.specs.Placing.{row_at};
 
@@ -106,8 +106,8 @@ pub trait Table: Drop {
         ensures memory { memory self.new ≡ memory self.old }
         ensures well_formed { IsContent (content self.new) };
 
-    /// As `put_bodies`, with blocks that lie one after the other in the payload of a frame. It may be known that they are those that lane 0
-    /// holds of the instant.
+    /// As `put_bodies`, with blocks that lie one after the other in the payload of a frame. It may be known that they are those that the lowest lane
+    /// holds of the instant which holds any.
     fn put_parts<P: Part>(
         &mut self,
         stream: usize,
@@ -220,10 +220,10 @@ pub trait Table: Drop {
         }
     }
 
-    /// The blocks that lane 0 of an open instant holds, where it holds one of each column: for a look whether those of a frame are the same. That
-    /// it tells them is left open.
-    fn first_blocks(&self, instant: u64) -> Option<&RowBlocks>
-        ensures { IfSome result (λ blocks. option_map (λ (row : OpenRowView). firsts row.columns)
+    /// The blocks that the lowest lane of an open instant holds which holds any, where it holds one of each column: for a look whether those of a
+    /// frame are the same. That it tells them is left open.
+    fn lowest_blocks(&self, instant: u64) -> Option<&RowBlocks>
+        ensures { IfSome result (λ blocks. option_map (λ (row : OpenRowView). lowest row.columns)
             (row_at instant (content self.now).open_rows) ≡ Some blocks.now) }
     {
         let _ = instant;

@@ -1,4 +1,4 @@
-use Rattle.std.proofs.Common.{rules, arith, ◌≡◌, ◌+◌, false, ◌∙◌}
+use Rattle.std.proofs.Common.{rules, arith, ◌≡◌, false}
 use Rattle.pdc_hub.specs.Counted.{is_used_up, refused_by, taken_by}
 use Rattle.pdc_hub.proofs.Counted.{is_free, refused_once, stays_below, taken_once}
 use Rattle.pdc_hub.proofs.locked_core.LockedCore.deliver.Goals as goal

@@ -1,4 +1,4 @@
-use Rattle.std.proofs.Common.{rules, arith, ◌∙◌, refl, sym}
+use Rattle.std.proofs.Common.{arith, ◌∙◌, refl, sym}
 use Rattle.pdc_life.specs.Answer.{ToPop}
 use Rattle.pdc_hub.specs.Replay.{WasRead}
 use Rattle.pdc_hub.proofs.Replays.{came_same, has_turned, turned_more}

@@ -1,4 +1,3 @@
-use Rattle.std.proofs.Common.{rules}
 use Rattle.pdc_hub.specs.Replay.{WasRead}
 use Rattle.pdc_hub.proofs.Replays.{all_said}
 use Rattle.pdc_hub.proofs.locked_core.LockedCore.totals.Goals as goal
