@@ -263,13 +263,13 @@ whole_second_alone column shape parts lane q bytes hs vs h fs ss ws now l w e se
     ∙ ap (λ (xs : List BlockView). columns_of (replicate (length hs) (with_second q true h)) xs ss) (sym written)
     ∙ ap (λ (xs : List Held). columns_of xs ws ss) (sym filled))
 
-pub whole_second_own : {P : Type 0} → (column : P → ℕ) (shape : P → Shape) (parts : List P) (lane q : ℕ) (bytes : List ℕ) (hs vs : List Held) (h : Held) (fs ss ws : List BlockView) (now : List ColumnView)
-    → eqb lane 0 ≡ false → WordsAreCut → are_laid_out column shape parts (shapes_of ss) 0 ≡ true → columns_of hs fs ss ≡ now → hs ≡ replicate (length hs) h → length fs ≡ length hs → length ss ≡ length hs
-    → ws ≡ blocks_in (shapes_of ss) bytes → vs ≡ replicate (length hs) (with_second q false h) → columns_of vs fs ws ≡ with_cells lane (cut_cells column shape parts q (words_in bytes)) now
-whole_second_own column shape parts lane q bytes hs vs h fs ss ws now l w e seen one a d written filled =
-    let bs : List BlockView = blocks_in (shapes_of ss) bytes in
-    let b : length bs ≡ length hs = as_many ss bytes (length hs) d in
-    whole column shape parts (shapes_of ss) lane q bytes hs h fs ss now (columns_of vs fs ws) w e seen one b a d
+pub whole_second_own : {P : Type 0} → (column : P → ℕ) (shape : P → Shape) (parts : List P) (lane q : ℕ) (bytes : List ℕ) (hs vs : List Held) (h : Held) (fs ss ts ws : List BlockView) (now : List ColumnView)
+    → eqb lane 0 ≡ false → WordsAreCut → are_laid_out column shape parts (shapes_of ts) 0 ≡ true → columns_of hs fs ss ≡ now → hs ≡ replicate (length hs) h → length fs ≡ length hs → length ss ≡ length hs → length ts ≡ length hs
+    → ws ≡ blocks_in (shapes_of ts) bytes → vs ≡ replicate (length hs) (with_second q false h) → columns_of vs fs ws ≡ with_cells lane (cut_cells column shape parts q (words_in bytes)) now
+whole_second_own column shape parts lane q bytes hs vs h fs ss ts ws now l w e seen one a d m written filled =
+    let bs : List BlockView = blocks_in (shapes_of ts) bytes in
+    let b : length bs ≡ length hs = as_many ts bytes (length hs) m in
+    whole column shape parts (shapes_of ts) lane q bytes hs h fs ss now (columns_of vs fs ws) w e seen one b a d
     (second_own lane q (length hs) h fs ss bs l a d b
     ∙ ap (λ (xs : List BlockView). columns_of (replicate (length hs) (with_second q false h)) fs xs) (sym written)
     ∙ ap (λ (xs : List Held). columns_of xs fs ws) (sym filled))

@@ -159,7 +159,7 @@ impl Columns {
             return true;
         }
         let second = self.second.get_mut();
-        if !fits(cut.parts, cut.laid, second) {
+        if !lay_out_for(cut, &self.first.get().blocks, second) {
             return false;
         }
         held.alike = false;
@@ -234,6 +234,25 @@ fn are_those_of<P: Part>(cut: &Cut<'_, P>, is_known: bool, blocks: &RowBlocks) -
     ensures same { result ≡ true → blocks_in (shapes_of blocks.now) cut.now.bytes.now ≡ blocks.now }
 {
     fits(cut.parts, cut.laid, blocks) && (is_known || blocks.has_bytes(cut.bytes))
+}
+
+/// Lays blocks out as those of a frame, where these others are laid out so. Whether they are then; else they stay.
+#[inline(always)]
+fn lay_out_for<P: Part>(cut: &Cut<'_, P>, others: &RowBlocks, blocks: &mut RowBlocks) -> bool
+    requires { length others.now ≡ length blocks.old }
+    ensures laid { result ≡ true → are_laid_out P.column_of P.shape_of cut.now.parts.now
+        (shapes_of blocks.new) 0 ≡ true }
+    ensures len { length blocks.new ≡ length blocks.old }
+    ensures none { result ≡ false → blocks.new ≡ blocks.old }
+{
+    if fits(cut.parts, cut.laid, blocks) {
+        return true;
+    }
+    if !fits(cut.parts, cut.laid, others) {
+        return false;
+    }
+    blocks.lay_out_as(others);
+    true
 }
 
 /// Makes the blocks of lane 0 those that the columns give, each in its shape. It answers the number above the worst quality.

@@ -23,16 +23,17 @@ returns-then-are_those_of-clause-whole g c = λ _.
     (seen_lent _ _ _ _ _ c.get.ensures c.self.view_is) c.in-Some.ensures (many_lent _ _ _ c.get.ensures c.self.invariant.first) c.self.invariant.second (c.are_those_of.ensures.same c.if-are_those_of.true) c.fill.ensures
 
 pub write_over-requires-clause-size : goal.write_over-requires-clause-size
-write_over-requires-clause-size g c = c.args.cut.now.whole ∙ laid_len g.P.Part.column_of g.P.Part.shape_of c.args.cut.now.parts.now (shapes_of c.get_mut-second.result.now) 0 (c.fits.ensures c.if-not-fits.false)
+write_over-requires-clause-size g c = c.args.cut.now.whole ∙ laid_len g.P.Part.column_of g.P.Part.shape_of c.args.cut.now.parts.now (shapes_of c.lay_out_for.new.blocks) 0 (c.lay_out_for.ensures.laid c.if-not-lay_out_for.false)
 
 pub invariant_of-self-2 : goal.invariant_of-self-2
 invariant_of-self-2 g c = record {
   first = omega (arith, c.self.invariant.first, ap length c.fill-2.ensures, length-replicate (length c.self.inside.held) (with_second c.args.quality false c.in-Some.held));
-  second = omega (arith, ap length c.write_over.ensures, as_many c.get_mut-second.result.now c.args.cut.now.bytes.now (length c.self.inside.held) (as_lent _ _ _ c.get_mut-second.ensures.value c.self.invariant.second), ap length c.fill-2.ensures, length-replicate (length c.self.inside.held) (with_second c.args.quality false c.in-Some.held));
+  second = omega (arith, ap length c.write_over.ensures, as_many c.lay_out_for.new.blocks c.args.cut.now.bytes.now (length c.self.inside.held) (c.lay_out_for.ensures.len ∙ as_lent _ _ _ c.get_mut-second.ensures.value c.self.invariant.second), ap length c.fill-2.ensures, length-replicate (length c.self.inside.held) (with_second c.args.quality false c.in-Some.held));
 }
 
 pub returns-clause-whole : goal.returns-clause-whole
 returns-clause-whole g c = λ _.
-    whole_second_own g.P.Part.column_of g.P.Part.shape_of c.args.cut.now.parts.now c.args.lane c.args.quality c.args.cut.now.bytes.now c.self.inside.held c.fill-2.new.self c.in-Some.held c.self.inside.first.value.blocks c.get_mut-second.result.now c.write_over.new.self c.args.self.now
-    (ne_eqb c.args.lane 0 (λ e. omega (arith, e, c.requires.lane))) c.words_are_cut.ensures (c.fits.ensures c.if-not-fits.false)
-    (ap (columns_of c.self.inside.held c.self.inside.first.value.blocks) c.get_mut-second.ensures.value ∙ c.self.view_is) c.in-Some.ensures c.self.invariant.first (as_lent _ _ _ c.get_mut-second.ensures.value c.self.invariant.second) c.write_over.ensures c.fill-2.ensures
+    whole_second_own g.P.Part.column_of g.P.Part.shape_of c.args.cut.now.parts.now c.args.lane c.args.quality c.args.cut.now.bytes.now c.self.inside.held c.fill-2.new.self c.in-Some.held c.self.inside.first.value.blocks c.get_mut-second.result.now c.lay_out_for.new.blocks c.write_over.new.self c.args.self.now
+    (ne_eqb c.args.lane 0 (λ e. omega (arith, e, c.requires.lane))) c.words_are_cut.ensures (c.lay_out_for.ensures.laid c.if-not-lay_out_for.false)
+    (ap (columns_of c.self.inside.held c.self.inside.first.value.blocks) c.get_mut-second.ensures.value ∙ c.self.view_is) c.in-Some.ensures c.self.invariant.first (as_lent _ _ _ c.get_mut-second.ensures.value c.self.invariant.second)
+    (c.lay_out_for.ensures.len ∙ as_lent _ _ _ c.get_mut-second.ensures.value c.self.invariant.second) c.write_over.ensures c.fill-2.ensures
