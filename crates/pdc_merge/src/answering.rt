@@ -298,6 +298,7 @@ fn answer_configuration<T: Table>(
 }
 
 /// Answers data of a node, and takes it where a layout of the node is held and it comes in time.
+#[inline(always)]
 pub fn answer_data<T: Table>(
     alignment: &mut Alignment<T>,
     layouts: &HeldLayouts,

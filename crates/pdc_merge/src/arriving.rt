@@ -26,6 +26,7 @@ use pdc_table::Table;
 impl<T: Table> Merger<T> {
     /// Answers data of a node, and takes it where it is to be taken. It may be known that its blocks are those that the other node's frame brought
     /// for the instant.
+    #[inline(always)]
     pub(crate) fn arrive_data(
         &mut self,
         stream: usize,
@@ -108,6 +109,7 @@ impl<T: Table> Merger<T> {
     }
 
     /// Answers data of a node whose check word is not computed yet, or bytes that are refused where it is wrong.
+    #[inline(always)]
     fn arrive_claimed(
         &mut self,
         stream: usize,
