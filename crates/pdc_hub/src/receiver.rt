@@ -70,7 +70,7 @@ fn hand_in<C: Core + Drop, N: Naming<C::Settings>, R: Wait>(
 }
 
 /// Reads a source to its end, or to the first idle turn after the close, and delivers each datagram whole, for the stream. It is read and
-/// checked outside the lock, but for data of node B, whose check word mostly follows from what node A sent.
+/// checked outside the lock, but for data of a node, whose check word mostly follows from what the other one sent.
 pub fn receive<'h, C: Core + Drop, N: Naming<C::Settings>, S: Source, R: Wait>(
     rt: &R,
     alloc: Global,

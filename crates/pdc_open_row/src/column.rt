@@ -18,7 +18,8 @@ pub struct Held {
     pub first: bool,
     /// Whether lane 1 holds one, in a table of two lanes.
     pub second: bool,
-    /// Whether the block of lane 1, where it holds one, stands in lane 0, since it was found to be the same: else it stands in its own.
+    /// Whether the block of lane 1, where it holds one, stands in lane 0, since it was found to be the same, or that held nothing: else it stands in
+    /// its own.
     pub alike: bool,
     /// The time quality byte of the frame of lane 0.
     pub first_quality: u8,

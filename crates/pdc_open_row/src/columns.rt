@@ -28,7 +28,8 @@ use std::mem::swap;
 pub struct Columns {
     /// Which lanes of each column hold a cell: all that a row that begins writes, and all that most looks at it read.
     pub(crate) held: Lanes,
-    /// The row that goes out: its blocks are those of lane 0, each at its column, where they are held. It is handed out as it is.
+    /// The row that goes out: its blocks are those of lane 0, each at its column, where they are held, and where those of lane 1 stand in lane 0
+    /// they are these. It is handed out as it is.
     pub(crate) first: HeldBox<DueRow>,
     /// The blocks of lane 1, where they are held and do not stand in lane 0.
     pub(crate) second: HeldBox<RowBlocks>,
