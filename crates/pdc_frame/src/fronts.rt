@@ -1,5 +1,6 @@
-//! The front of a frame whose check word was found to be right.
-ghost use Rattle.std.specs.Prelude.{◌≡◌, ◌-◌, ◌<◌, ◌++◌, IfNone, IfSome, drop, length, true};
+//! The front of a frame that was read without its check word.
+ghost use Rattle.std.specs.Prelude.{◌≡◌, ◌-◌, ◌<◌, ◌++◌, IfNone, IfSome, drop, length};
+ghost use Rattle.std.specs.Prelude.{take, true};
 ghost use Rattle.pdc_words.specs.CheckWord.{check_word_of};
 ghost use Rattle.pdc_words.specs.declared.fronts.TheConstants.{FRONT_LEN};
 ghost use Rattle.pdc_frame.specs.Claim.{is_right};
@@ -16,7 +17,10 @@ impl Claim {
     /// What stands before the payload with the first 14 bytes of that, and the check word, if the payload has as many.
     #[inline(always)]
     pub fn front(&self, payload: &[u8]) -> Option<CheckedFront>
-        // Where the check word is right, it is that of the front and what stands behind it in the payload.
+        // It is of this very frame, whether the check word is right or not,
+        ensures own { IfSome result (λ known. (known.bytes ≡ self.now.header ++
+            take (FRONT_LEN - HEADER_LEN) payload.now) × (known.check ≡ self.now.check)) }
+        // and where that is right, it is that of the front and what stands behind it in the payload.
         ensures front { is_right self.now payload.now ≡ true → IfSome result (λ known.
             known.check ≡ check_word_of (known.bytes ++ drop (FRONT_LEN - HEADER_LEN) payload.now)) }
         ensures none { IfNone result (length payload.now < FRONT_LEN - HEADER_LEN) }
