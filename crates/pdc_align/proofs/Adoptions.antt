@@ -2,8 +2,10 @@
 use Rattle.std.proofs.Common.{◌≡◌, ℕ, ◌==◌, Bool, true, false, if◌then◌else◌, List, [], ◌∷◌, map, set, refl, ap, ◌∙◌, None}
 use Rattle.pdc_arrival.specs.pdc_row.RowView.{RowView}
 use Rattle.pdc_table.specs.Content.{Content}
-use Rattle.pdc_table.specs.pdc_open_row.Taking.{with_cell, without_column, without_stream}
-use Rattle.pdc_table.specs.pdc_open_row.Views.{ColumnView, OpenRowView, empty_column}
+use Rattle.pdc_table.specs.pdc_columns.Taking.{with_cell}
+use Rattle.pdc_table.specs.pdc_open_row.Taking.{without_column, without_stream}
+use Rattle.pdc_table.specs.pdc_columns.Views.{ColumnView, empty_column}
+use Rattle.pdc_table.specs.pdc_open_row.Views.{OpenRowView}
 use Rattle.pdc_arrival.specs.pdc_life.Given.{Given, columns_of, streams_of}
 use Rattle.pdc_align.specs.State.{after_adoption, after_adoptions}
 use Rattle.pdc_align.proofs.Lists.{map_same, map_twice, set_all, set_at, set_more, set_range}

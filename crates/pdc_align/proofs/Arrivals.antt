@@ -16,9 +16,11 @@ use Rattle.pdc_table.specs.pdc_open_row.Streams.{stream_count}
 use Rattle.pdc_table.specs.OpenInstants.{instants_of}
 use Rattle.pdc_table.specs.Placing.{row_at}
 use Rattle.pdc_table.specs.Steps.{after_take, is_near_all, put_answer}
-use Rattle.pdc_table.specs.pdc_open_row.Taking.{answer_at, cell_in, conflicts, holds_other, with_frame}
+use Rattle.pdc_table.specs.pdc_columns.Taking.{cell_in, conflicts, holds_other}
+use Rattle.pdc_table.specs.pdc_open_row.Taking.{answer_at, with_frame}
 use Rattle.pdc_table.specs.Steps as table
-use Rattle.pdc_table.specs.pdc_open_row.Views.{ColumnView, OpenRowView, empty_column}
+use Rattle.pdc_table.specs.pdc_columns.Views.{ColumnView, empty_column}
+use Rattle.pdc_table.specs.pdc_open_row.Views.{OpenRowView}
 use Rattle.pdc_table.specs.pdc_open_row.declared.outcome.PutOutcome.{PutOutcome}
 use Rattle.pdc_table.specs.pdc_open_row.declared.outcome.PutOutcome.TheVariants as put
 use Rattle.pdc_arrival.specs.pdc_life.declared.outcome.Outcome.{Outcome}

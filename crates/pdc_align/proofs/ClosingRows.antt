@@ -9,16 +9,17 @@ use Rattle.pdc_arrival.specs.pdc_cfg.declared.shape.Shape.{Shape}
 use Rattle.pdc_arrival.specs.pdc_row.CellView.{BlockView, CellView}
 use Rattle.pdc_arrival.specs.pdc_row.Quality.{quality_of}
 use Rattle.pdc_arrival.specs.pdc_row.RowView.{RowView}
-use Rattle.pdc_table.specs.pdc_open_row.Chosen.{chosen_of}
+use Rattle.pdc_table.specs.pdc_columns.Chosen.{chosen_of}
 use Rattle.pdc_table.specs.Closing.{aged, counter, closing, staying}
 use Rattle.pdc_table.specs.pdc_open_row.Due.{all_taken}
 use Rattle.pdc_table.specs.Closing as table
 use Rattle.pdc_table.specs.pdc_open_row.Due as waiting
 use Rattle.pdc_table.specs.Content.{ColumnHasShape, HasShape, HaveShapes}
-use Rattle.pdc_table.specs.pdc_open_row.Row.{blocks_at, blocks_of, qualities_at, qualities_of}
+use Rattle.pdc_table.specs.pdc_columns.Giving.{blocks_at, blocks_of, qualities_at, qualities_of}
 use Rattle.pdc_table.specs.pdc_open_row.Row as closed
 use Rattle.pdc_table.specs.Steps.{closing_of, is_first_whole, staying_of, whole_answer}
-use Rattle.pdc_table.specs.pdc_open_row.Views.{ColumnView, OpenRowView}
+use Rattle.pdc_table.specs.pdc_columns.Views.{ColumnView}
+use Rattle.pdc_table.specs.pdc_open_row.Views.{OpenRowView}
 use Rattle.pdc_table.specs.pdc_open_row.declared.wait_rule.WaitRule.{WaitRule}
 use Rattle.pdc_arrival.specs.pdc_life.declared.timing.WaitKind.{WaitKind}
 use Rattle.pdc_arrival.specs.pdc_life.declared.timing.WaitKind.TheVariants.{Absolute, Relative}

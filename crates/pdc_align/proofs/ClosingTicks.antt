@@ -13,7 +13,8 @@ use Rattle.pdc_table.specs.Closing.{counter}
 use Rattle.pdc_table.specs.Content.{Content}
 use Rattle.pdc_table.specs.OpenInstants.{instants_of}
 use Rattle.pdc_table.specs.Steps.{after_tick, closed_by, closing_of}
-use Rattle.pdc_table.specs.pdc_open_row.Views.{ColumnView, OpenRowView, empty_column}
+use Rattle.pdc_table.specs.pdc_columns.Views.{ColumnView, empty_column}
+use Rattle.pdc_table.specs.pdc_open_row.Views.{OpenRowView}
 use Rattle.pdc_arrival.specs.pdc_life.Answer.{has_change, is_ready, ready_columns, tick_answer}
 use Rattle.pdc_arrival.specs.pdc_life.Given.{Given, columns_of, count_for}
 use Rattle.pdc_arrival.specs.pdc_life.Life.{Entry, Take, Tick, TickAnswer, age_of, cell_in, cell_of, cleared_count, held_section, is_take_of, last_of, open_instants, section_in_force, take_of, takes, takes_since_adopted, waiting, was_taken}

@@ -9,7 +9,8 @@ use Rattle.pdc_arrival.specs.pdc_row.declared.output.Nominal.TheVariants.{Hz50}
 use Rattle.pdc_arrival.specs.pdc_row.CellView.{BlockView, CellView}
 use Rattle.pdc_arrival.specs.pdc_row.RowView.{RowView}
 use Rattle.pdc_table.specs.Content.{Content}
-use Rattle.pdc_table.specs.pdc_open_row.Views.{ColumnView, OpenRowView}
+use Rattle.pdc_table.specs.pdc_columns.Views.{ColumnView}
+use Rattle.pdc_table.specs.pdc_open_row.Views.{OpenRowView}
 use Rattle.pdc_arrival.specs.pdc_life.declared.timing.WaitKind.{WaitKind}
 use Rattle.pdc_arrival.specs.pdc_life.declared.timing.WaitKind.TheVariants.{Absolute, Relative}
 use Rattle.pdc_arrival.specs.pdc_life.Answer.{ReadStep, ToArrive, ToTick, ToPop, life_from}

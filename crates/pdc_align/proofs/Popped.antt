@@ -7,7 +7,7 @@ use Rattle.pdc_arrival.specs.pdc_row.Rising.{AreBelow, Rises}
 use Rattle.pdc_arrival.specs.pdc_row.RowView.{RowView, row_instants}
 use Rattle.pdc_table.specs.Closing.{aged, closes}
 use Rattle.pdc_table.specs.Content.{Content, IsContent}
-use Rattle.pdc_table.specs.pdc_open_row.Layout.{LayoutView}
+use Rattle.pdc_table.specs.pdc_columns.Layout.{LayoutView}
 use Rattle.pdc_table.specs.OpenInstants.{instants_of}
 use Rattle.pdc_table.specs.pdc_open_row.Row.{row_of}
 use Rattle.pdc_table.specs.Steps.{after_pop, after_tick, closing_of, pop_answer}

@@ -9,7 +9,8 @@ use Rattle.pdc_arrival.specs.pdc_row.CellView.{CellView}
 use Rattle.pdc_arrival.specs.pdc_row.Rising.{place, rising}
 use Rattle.pdc_table.specs.Closing.{counter}
 use Rattle.pdc_table.specs.pdc_open_row.Streams.{stream_count}
-use Rattle.pdc_table.specs.pdc_open_row.Views.{blank_row, empty_column}
+use Rattle.pdc_table.specs.pdc_columns.Views.{empty_column}
+use Rattle.pdc_table.specs.pdc_open_row.Views.{blank_row}
 use Rattle.pdc_arrival.specs.pdc_life.Given.{Given, columns_of, streams_of}
 use Rattle.pdc_arrival.specs.pdc_life.Life.{Entry, Arrive, Tick, Pop, Take, age_of, cell_in, cell_of, is_adoption_of, is_take_of, last_of, open_instants, take_at, take_of, takes, takes_since_adopted, was_taken}
 use Rattle.pdc_align.specs.State.{column_of, open_row_of}

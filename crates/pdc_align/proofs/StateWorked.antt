@@ -10,7 +10,8 @@ use Rattle.pdc_arrival.specs.pdc_row.Layout.{own_block}
 use Rattle.pdc_arrival.specs.pdc_row.CellView.{BlockView, CellView}
 use Rattle.pdc_arrival.specs.pdc_row.RowView.{RowView}
 use Rattle.pdc_table.specs.Content.{Content}
-use Rattle.pdc_table.specs.pdc_open_row.Views.{ColumnView, OpenRowView, empty_column}
+use Rattle.pdc_table.specs.pdc_columns.Views.{ColumnView, empty_column}
+use Rattle.pdc_table.specs.pdc_open_row.Views.{OpenRowView}
 use Rattle.pdc_arrival.specs.pdc_life.declared.timing.WaitKind.TheVariants.{Relative}
 use Rattle.pdc_arrival.specs.pdc_life.declared.outcome.Outcome.{Outcome}
 use Rattle.pdc_arrival.specs.pdc_life.declared.outcome.Outcome.TheVariants.{Candidate, Refused, Taken}

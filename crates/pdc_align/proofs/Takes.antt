@@ -10,8 +10,9 @@ use Rattle.pdc_table.specs.Calls.{BlocksStandInTheirColumns}
 use Rattle.pdc_table.specs.Closing.{counter}
 use Rattle.pdc_table.specs.Content.{HaveOwnColumns}
 use Rattle.pdc_table.specs.pdc_open_row.Streams.{stream_count}
-use Rattle.pdc_table.specs.pdc_open_row.Taking.{given_for, with_cell, with_cells, with_frame, with_given}
-use Rattle.pdc_table.specs.pdc_open_row.Views.{ColumnView, empty_column}
+use Rattle.pdc_table.specs.pdc_columns.Taking.{given_for, with_cell, with_cells, with_given}
+use Rattle.pdc_table.specs.pdc_open_row.Taking.{with_frame}
+use Rattle.pdc_table.specs.pdc_columns.Views.{ColumnView, empty_column}
 use Rattle.pdc_arrival.specs.pdc_life.declared.outcome.Outcome.TheVariants.{Taken}
 use Rattle.pdc_arrival.specs.pdc_life.Arrival.{Data}
 use Rattle.pdc_arrival.specs.pdc_life.Given.{Given, columns_of, streams_of}

@@ -4,7 +4,7 @@ use Rattle.std.specs.List.{range_with_len}
 use Rattle.pdc_arrival.specs.pdc_cfg.Section.{SectionFields}
 use Rattle.pdc_arrival.specs.pdc_row.CellView.{CellView}
 use Rattle.pdc_table.specs.Content.{Content, new_content}
-use Rattle.pdc_table.specs.pdc_open_row.Layout.{LayoutView}
+use Rattle.pdc_table.specs.pdc_columns.Layout.{LayoutView}
 use Rattle.pdc_table.specs.Steps.{after_pop, after_take, after_tick, disagreements_after, put_answer, tick_answer}
 use Rattle.pdc_arrival.specs.pdc_life.declared.outcome.Outcome.{Outcome}
 use Rattle.pdc_arrival.specs.pdc_life.declared.outcome.Outcome.TheVariants.{Refused}

@@ -11,3 +11,4 @@ pub use Rattle.pdc_arrival.specs.pdc_row
 pub use Rattle.pdc_arrival.specs.pdc_frame
 pub use Rattle.pdc_table.specs as pdc_table
 pub use Rattle.pdc_arrival.specs.pdc_cfg
+pub use Rattle.pdc_table.specs.pdc_memory

@@ -4,9 +4,10 @@ use Rattle.pdc_arrival.specs.pdc_cfg.Section.{SectionFields}
 use Rattle.pdc_arrival.specs.pdc_cfg.declared.shape.Shape.{Shape}
 use Rattle.pdc_table.specs.Closing.{counter}
 use Rattle.pdc_table.specs.Content.{Content}
-use Rattle.pdc_table.specs.pdc_open_row.Layout.{LayoutView}
+use Rattle.pdc_table.specs.pdc_columns.Layout.{LayoutView}
 use Rattle.pdc_table.specs.Steps.{after_drop_column, after_drop_stream, after_require}
-use Rattle.pdc_table.specs.pdc_open_row.Views.{ColumnView, OpenRowView}
+use Rattle.pdc_table.specs.pdc_columns.Views.{ColumnView}
+use Rattle.pdc_table.specs.pdc_open_row.Views.{OpenRowView}
 use Rattle.pdc_table.specs.pdc_open_row.declared.wait_rule.WaitRule.{WaitRule}
 use Rattle.pdc_table.specs.pdc_open_row.declared.wait_rule.WaitRule.TheVariants.{Ticks, Until}
 use Rattle.pdc_arrival.specs.pdc_life.Given.{Given, columns_of, streams_of}

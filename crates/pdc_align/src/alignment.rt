@@ -2,15 +2,15 @@
 //! stand in `ticking.rt`. What they mean for a life stands in `life_calls.rt`.
 ghost use Rattle.std.specs.Prelude.{◌≡◌, ◌<◌, List, IfOk, IfSome, false, length, map, option_map};
 ghost use Rattle.std.specs.Prelude.{OnErr, Some};
-ghost use Rattle.pdc_memory.specs.Asking.{SomeWasRefused};
+ghost use Rattle.pdc_table.specs.pdc_memory.Asking.{SomeWasRefused};
 ghost use Rattle.std.specs.List.{All};
 ghost use Rattle.pdc_arrival.specs.pdc_cfg.Section.{fields_of_view};
 ghost use Rattle.pdc_arrival.specs.pdc_row.RowView.{RowView, row_view};
 ghost use Rattle.pdc_table.specs.Content.{HasSizesOf, IsContent};
 ghost use Rattle.pdc_table.specs.KeptRow.{popped_into};
 ghost use Rattle.pdc_table.specs.Placing.{row_at};
-ghost use Rattle.pdc_table.specs.pdc_open_row.Layout.{layout_view};
-ghost use Rattle.pdc_table.specs.pdc_open_row.Twin.{lowest};
+ghost use Rattle.pdc_table.specs.pdc_columns.Layout.{layout_view};
+ghost use Rattle.pdc_table.specs.pdc_columns.Twin.{lowest};
 ghost use Rattle.pdc_table.specs.pdc_open_row.Views.{OpenRowView};
 ghost use Rattle.pdc_table.specs.Steps as table;
 ghost use Rattle.pdc_arrival.specs.Views.{section_part};
@@ -26,8 +26,7 @@ ghost use Rattle.pdc_align.specs.Calls.{first_of_plan, row_layout_in, waiting_in
 
 use crate::{Column, Plan, columns};
 use pdc_arrival::{ColumnSection, MAX_PMUS, SectionView, Shape, WaitKind};
-use pdc_memory::Held;
-use pdc_table::{CopyFrom, DueRow, HeldBox, RowBlocks, RowLayout, Table, copy_each};
+use pdc_table::{CopyFrom, DueRow, Held, HeldBox, RowBlocks, RowLayout, Table, copy_each};
 use std::alloc::{AllocError, Global};
 use std::marker::Model;
 

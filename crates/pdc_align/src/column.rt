@@ -1,6 +1,6 @@
 //! What is kept of a column.
 ghost use Rattle.std.specs.Prelude.{◌≡◌, IfOk, None, option_map, OnErr};
-ghost use Rattle.pdc_memory.specs.Asking.{SomeWasRefused};
+ghost use Rattle.pdc_table.specs.pdc_memory.Asking.{SomeWasRefused};
 ghost use Rattle.pdc_align.specs.Calls.{clear_to, is_ready_in, with_adoption, with_section};
 ghost use Rattle.pdc_align.specs.Slot.{count_in};
 ghost use Rattle.pdc_arrival.specs.pdc_cfg.Section.{fields_of_view};

@@ -1,7 +1,7 @@
 //! All columns of an alignment, one call for each thing that is asked of them.
 ghost use Rattle.std.specs.Prelude.{◌≡◌, ℕ, ◌+◌, ◌-◌, ◌<◌, ◌≤◌, ◌++◌, [], ◌∷◌, if◌then◌else◌};
 ghost use Rattle.std.specs.Prelude.{IfOk, length, map, replicate, OnErr};
-ghost use Rattle.pdc_memory.specs.Asking.{SomeWasRefused};
+ghost use Rattle.pdc_table.specs.pdc_memory.Asking.{SomeWasRefused};
 ghost use Rattle.std.specs.List.{All, list_any, range_with_len};
 ghost use Rattle.pdc_arrival.specs.pdc_life.Answer.{greatest_count};
 ghost use Rattle.pdc_arrival.specs.Views.{section_part};
@@ -14,7 +14,7 @@ ghost use Rattle.pdc_align.specs.Calls.{with_adoption, with_sections};
 use crate::Column;
 use arrayvec::ArrayVec;
 use pdc_arrival::{ColumnSection, MAX_PMUS, Shape};
-use pdc_memory::Held;
+use pdc_table::Held;
 use std::alloc::{AllocError, Global};
 
 /// So many columns for which nothing came, each with its opening count.

@@ -1,6 +1,6 @@
 //! The frame of the layout in force.
 ghost use Rattle.std.specs.Prelude.{◌≡◌, ◌+◌, ◌≤◌, ◌++◌, IsOk, List, OnErr, OnOk, length};
-ghost use Rattle.pdc_memory.specs.Asking.{ForSome};
+ghost use Rattle.pdc_table.specs.pdc_memory.Asking.{ForSome};
 ghost use Rattle.pdc_align.specs.Align.{StandsFor};
 ghost use Rattle.pdc_arrival.specs.pdc_life.Given.{Given};
 ghost use Rattle.pdc_arrival.specs.pdc_life.Life.{Entry};

@@ -37,7 +37,7 @@ pub use pdc_arrival::{
     Stamp, arrival_from_node, claim_from_node, hear_from_node, hear_from_pmu, read_from_node,
     read_from_pmu,
 };
-pub use pdc_table::{KnownFront, copy_block};
+pub use pdc_table::{Held, HeldBox, KnownFront, copy_block};
 pub use plan::Plan;
 pub use state_laws::{answers_agree, cells_are_put, others_leave_it, take_is_take};
 pub use ticked::Ticked;

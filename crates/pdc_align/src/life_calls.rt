@@ -1,17 +1,18 @@
 //! The calls of an alignment, said of every life that it stands for: each is a step, and the laws by which the step follows the life.
 ghost use Rattle.std.specs.Prelude.{◌≡◌, ◌<◌, ◌≤◌, [], ◌∷◌, ℕ, List, IfOk, IfSome, None, Option, false};
 ghost use Rattle.std.specs.Prelude.{length, map, option_map, OnErr};
-ghost use Rattle.pdc_memory.specs.Asking.{SomeWasRefused};
+ghost use Rattle.pdc_table.specs.pdc_memory.Asking.{SomeWasRefused};
 ghost use Rattle.std.specs.List.{All};
 ghost use Rattle.pdc_arrival.specs.pdc_row.declared.output.Output.{Output};
 ghost use Rattle.pdc_arrival.specs.pdc_block.Block.{words_in};
 ghost use Rattle.pdc_arrival.specs.pdc_row.RowView.{RowView, row_view};
 ghost use Rattle.pdc_table.specs.Content.{IsPut};
 ghost use Rattle.pdc_table.specs.KeptRow.{popped_into};
-ghost use Rattle.pdc_table.specs.pdc_open_row.Layout.{layout_view};
-ghost use Rattle.pdc_table.specs.pdc_open_row.Parts.{cut_cells};
-ghost use Rattle.pdc_table.specs.pdc_open_row.Taking.{body_cells_of};
-ghost use Rattle.pdc_table.specs.pdc_open_row.Twin.{IsTwinIn, twin_of};
+ghost use Rattle.pdc_table.specs.pdc_columns.Layout.{layout_view};
+ghost use Rattle.pdc_table.specs.pdc_columns.Parts.{cut_cells};
+ghost use Rattle.pdc_table.specs.pdc_columns.Taking.{body_cells_of};
+ghost use Rattle.pdc_table.specs.pdc_columns.Twin.{twin_of};
+ghost use Rattle.pdc_table.specs.pdc_open_row.Twin.{IsTwinIn};
 ghost use Rattle.pdc_table.specs.Placing.{row_at};
 ghost use Rattle.pdc_arrival.specs.Views.{section_part};
 ghost use Rattle.pdc_arrival.specs.declared.arrival.ColumnSection.{ColumnSection as ColumnSectionData};

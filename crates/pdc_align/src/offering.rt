@@ -2,9 +2,10 @@
 ghost use Rattle.std.specs.Prelude.{◌≡◌, ◌≤◌, length};
 ghost use Rattle.pdc_arrival.specs.pdc_block.Block.{words_in};
 ghost use Rattle.pdc_table.specs.Content.{IsPut};
-ghost use Rattle.pdc_table.specs.pdc_open_row.Parts.{cut_cells};
-ghost use Rattle.pdc_table.specs.pdc_open_row.Taking.{body_cells_of};
-ghost use Rattle.pdc_table.specs.pdc_open_row.Twin.{IsTwinIn, twin_of};
+ghost use Rattle.pdc_table.specs.pdc_columns.Parts.{cut_cells};
+ghost use Rattle.pdc_table.specs.pdc_columns.Taking.{body_cells_of};
+ghost use Rattle.pdc_table.specs.pdc_columns.Twin.{twin_of};
+ghost use Rattle.pdc_table.specs.pdc_open_row.Twin.{IsTwinIn};
 ghost use Rattle.pdc_table.specs.Placing.{row_at};
 ghost use Rattle.pdc_align.specs.Align.{Unchanged};
 ghost use Rattle.pdc_align.specs.Calls.{after_data, put_outcome};

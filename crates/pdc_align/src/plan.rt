@@ -1,7 +1,7 @@
 //! What is given to an alignment.
 ghost use Rattle.std.specs.Prelude.{◌≤◌};
 ghost use Rattle.pdc_arrival.specs.pdc_row.declared.limits.TheConstants.{MAX_WINDOW, MIN_WINDOW};
-ghost use Rattle.pdc_table.specs.pdc_open_row.declared.limits.TheConstants.{MAX_COLUMNS, MAX_LANES};
+ghost use Rattle.pdc_table.specs.pdc_columns.declared.limits.TheConstants.{MAX_COLUMNS, MAX_LANES};
 
 use pdc_arrival::WaitKind;
 

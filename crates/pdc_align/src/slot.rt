@@ -1,13 +1,12 @@
 //! A place for a section.
 ghost use Rattle.std.specs.Prelude.{◌≡◌, IfOk, None, Some, option_map, OnErr};
-ghost use Rattle.pdc_memory.specs.Asking.{SomeWasRefused};
+ghost use Rattle.pdc_table.specs.pdc_memory.Asking.{SomeWasRefused};
 ghost use Rattle.pdc_arrival.specs.pdc_cfg.Section.{fields_of_view};
 ghost use Rattle.pdc_align.specs.Slot.{count_in};
 ghost use Rattle.pdc_align.specs.State.{shape_in};
 
 use pdc_arrival::{Section, SectionView, Shape};
-use pdc_memory::HeldBox;
-use pdc_table::CopyFrom;
+use pdc_table::{CopyFrom, HeldBox};
 use std::alloc::{AllocError, Global};
 use std::marker::Model;
 

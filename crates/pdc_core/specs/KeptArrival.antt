@@ -11,7 +11,7 @@ use Rattle.pdc_align.specs.pdc_life.Arrival.{Arrival, BytesRefused, Data, Layout
 use Rattle.pdc_align.specs.pdc_arrival.Claimed.{claimed_data}
 use Rattle.pdc_align.specs.pdc_arrival.Views.{stamp_view}
 use Rattle.pdc_align.specs.pdc_frame.declared.claim.Claim.{Claim}
-use Rattle.pdc_memory.specs.Asking.{WasRefused}
+use Rattle.pdc_align.specs.pdc_memory.Asking.{WasRefused}
 
 abbrev pub bytes_of : Payload → List ℕ
 bytes_of (payload.Short bytes) = bytes

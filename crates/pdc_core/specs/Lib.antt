@@ -5,4 +5,4 @@ pub mod Said
 pub mod Step
 pub mod KeptArrival
 pub mod Lent
-pub use Rattle.pdc_memory.specs as pdc_memory
+pub use Rattle.pdc_align.specs.pdc_memory

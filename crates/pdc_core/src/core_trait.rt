@@ -1,7 +1,7 @@
 //! What a node and the merger are to the programs that run them.
 ghost use Rattle.std.specs.Prelude.{◌≡◌, ◌≤◌, ◌<◌, ◌+◌, ◌*◌, ◌++◌, ◌∷◌, ℕ, IfSome, IsOk, List};
 ghost use Rattle.std.specs.Prelude.{OnErr, OnOk, false, length, option_map, true};
-ghost use Rattle.pdc_memory.specs.Asking.{ForSome};
+ghost use Rattle.pdc_align.specs.pdc_memory.Asking.{ForSome};
 ghost use Rattle.pdc_align.specs.Align.{ticked_of};
 ghost use Rattle.pdc_align.specs.pdc_arrival.Counts.{after_answer, counts_after};
 ghost use Rattle.pdc_align.specs.pdc_arrival.declared.counts.Counts.{Counts as CountsData};
@@ -26,8 +26,7 @@ ghost use Rattle.pdc_align.specs.pdc_table.KeptRow.{popped_into};
 ghost use Rattle.pdc_align.specs.pdc_frame.declared.tag_limits.TheConstants.{SECONDS};
 
 use crate::{CoreStep, KeptArrival, LentData, Reads, Reply};
-use pdc_align::{Arrival, Buffer, Counts, DueRow, MAX_PMUS, Outcome, Ticked};
-use pdc_memory::HeldBox;
+use pdc_align::{Arrival, Buffer, Counts, DueRow, HeldBox, MAX_PMUS, Outcome, Ticked};
 use std::alloc::AllocError;
 
 /// The core of a concentrator: for every life that it stands for, each call answers as the life does, and the core then stands for

@@ -3,7 +3,7 @@ ghost use Rattle.std.specs.Prelude.{◌≡◌, ◌≤◌, [], ◌∷◌, IfOk, I
 ghost use Rattle.pdc_core.specs.KeptArrival.{data_view, kept_part, taken_view, takes_no_memory};
 ghost use Rattle.pdc_core.specs.KeptArrival.{wanted_of};
 ghost use Rattle.pdc_core.specs.Lent.{can_take, has_room, lent_view};
-ghost use Rattle.pdc_memory.specs.Asking.{WasRefused};
+ghost use Rattle.pdc_align.specs.pdc_memory.Asking.{WasRefused};
 ghost use Rattle.pdc_align.specs.pdc_arrival.Views.{arrival_view, section_part};
 ghost use Rattle.pdc_align.specs.pdc_life.Arrival.{Data, Layout};
 ghost use Rattle.pdc_align.specs.pdc_cfg.Section.{fields_of_view};
@@ -12,9 +12,8 @@ ghost use Rattle.pdc_align.specs.pdc_life.Views.{arrival_view as reading_view};
 use crate::{KeptLayout, KeptSection, LentData, Payload, SHORT_PAYLOAD, ShortPayload};
 use arrayvec::ArrayVec;
 use pdc_align::{
-    Arrival, Claim, ColumnSection, FrameFault, MAX_PMUS, Reading, Refusal, SectionView,
+    Arrival, Claim, ColumnSection, FrameFault, Held, MAX_PMUS, Reading, Refusal, SectionView,
 };
-use pdc_memory::Held;
 use std::alloc::{AllocError, Global};
 
 /// What bytes said that arrived for a stream.

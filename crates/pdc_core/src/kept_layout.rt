@@ -2,8 +2,7 @@
 ghost use Rattle.std.specs.Prelude.{◌≤◌, length};
 ghost use Rattle.pdc_align.specs.pdc_row.declared.limits.TheConstants.{MAX_PMUS};
 
-use pdc_align::{Section, Stamp};
-use pdc_memory::Held;
+use pdc_align::{Held, Section, Stamp};
 
 /// A section of a layout that is kept, beside its column.
 #[derive(Debug, Drop)]

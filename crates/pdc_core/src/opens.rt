@@ -1,6 +1,6 @@
 //! Cores of which each life can be begun.
 ghost use Rattle.std.specs.Prelude.{◌≡◌, ℕ, [], IfOk, List, OnErr};
-ghost use Rattle.pdc_memory.specs.Asking.{SomeWasRefused};
+ghost use Rattle.pdc_align.specs.pdc_memory.Asking.{SomeWasRefused};
 ghost use Rattle.pdc_align.specs.pdc_life.Given.{Given};
 ghost use Rattle.pdc_align.specs.pdc_life.Life.{Entry};
 ghost use Rattle.pdc_align.specs.pdc_row.declared.output.Output.{Output as OutputData};

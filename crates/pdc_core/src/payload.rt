@@ -1,11 +1,10 @@
 //! The payload of data that is kept.
 ghost use Rattle.std.specs.Prelude.{◌≡◌, ◌≤◌, [], IfOk, IsOk, OnErr, false, length, true};
-ghost use Rattle.pdc_memory.specs.Asking.{WasRefused};
+ghost use Rattle.pdc_align.specs.pdc_memory.Asking.{WasRefused};
 ghost use Rattle.pdc_core.specs.KeptArrival.{bytes_of, can_hold};
 ghost use Rattle.pdc_core.specs.declared.payload.TheConstants.{SHORT_PAYLOAD};
 
-use pdc_align::copy_block;
-use pdc_memory::Held;
+use pdc_align::{Held, copy_block};
 use std::alloc::{AllocError, Global};
 use std::fmt;
 use std::fmt::{Debug, Formatter};

@@ -120,8 +120,8 @@ impl<C: Core + Drop, N: Naming<C::Settings>> Hub<C, N> {
     }
 
     /// Takes the lock. For a datagram it is held for less than a microsecond, so a thread that finds it held lets others run some times before
-    /// it sleeps: who sleeps has to be woken by a call of the system, for which who woke it waits. It does not turn at the lock, since
-    /// each look takes the lock's memory from who holds it. A tick, a layout or a base that is brought up hold it longer.
+    /// it sleeps: who lets go of the lock wakes a thread that sleeps, and waits for the call of the system that does it. It does not turn
+    /// at the lock, since each look takes the lock's memory from who holds it. A tick, a layout or a base that is brought up hold it longer.
     #[inline(always)]
     fn locked<R: Wait>(&self, rt: &R) -> MutexGuard<'_, LockedCore<C, N>> {
         if let Some(guard) = self.table.try_lock() {
@@ -130,7 +130,7 @@ impl<C: Core + Drop, N: Naming<C::Settings>> Hub<C, N> {
         self.locked_in_turn(rt)
     }
 
-    /// The same where it is held. A call of its own, since it is seldom.
+    /// The same where it is held. A call of its own, so that the way of a thread that finds the lock free stays short.
     #[inline(never)]
     fn locked_in_turn<R: Wait>(&self, rt: &R) -> MutexGuard<'_, LockedCore<C, N>> {
         for _ in 0..TURNS {

@@ -9,7 +9,7 @@ use Rattle.pdc_row.specs.Rising.{Rises}
 use Rattle.pdc_table.specs.Content.{HaveOwnColumns, IsPut, NoneIsOf}
 use Rattle.pdc_align.specs.Align.{State}
 use Rattle.pdc_align.specs.Calls.{column_in}
-use Rattle.pdc_table.specs.pdc_open_row.Parts.{cut_cells}
+use Rattle.pdc_table.specs.pdc_columns.Parts.{cut_cells}
 use Rattle.pdc_merge.specs.Cells.{are_in_force, cells_in, has_count}
 use Rattle.pdc_merge.specs.Held.{AreInPlace}
 use Rattle.pdc_merge.specs.declared.held_layout.HeldSection.{HeldSection}

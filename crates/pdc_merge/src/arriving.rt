@@ -1,7 +1,8 @@
 //! How the merger answers what comes of a node.
 ghost use Rattle.std.specs.Prelude.{◌≡◌, ◌<◌, ◌∷◌, ◌++◌, ℕ, List, drop, true};
 ghost use Rattle.pdc_table.specs.Placing.{row_at};
-ghost use Rattle.pdc_table.specs.pdc_open_row.Twin.{IsTwinIn, twin_of};
+ghost use Rattle.pdc_table.specs.pdc_columns.Twin.{twin_of};
+ghost use Rattle.pdc_table.specs.pdc_open_row.Twin.{IsTwinIn};
 ghost use Rattle.std.specs.Option.{ForSome};
 ghost use Rattle.pdc_frame.specs.CheckWord.{check_word_of};
 ghost use Rattle.pdc_frame.specs.Claim.{is_right};

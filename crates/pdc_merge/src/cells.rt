@@ -4,7 +4,7 @@ ghost use Rattle.std.specs.List.{AllByRecursion};
 ghost use Rattle.pdc_block.specs.Block.{words_in};
 ghost use Rattle.pdc_cfg.specs.Section.{SectionFields};
 ghost use Rattle.pdc_cfg.specs.Shape.{word_count_of};
-ghost use Rattle.pdc_table.specs.pdc_open_row.Taking.{body_cells_of};
+ghost use Rattle.pdc_table.specs.pdc_columns.Taking.{body_cells_of};
 ghost use Rattle.pdc_align.specs.Calls.{column_in};
 ghost use Rattle.pdc_align.specs.Slot.{count_in};
 ghost use Rattle.pdc_merge.specs.Cells.{are_in_force, blocks_len, cell_in, cells_in, has_count};

@@ -6,7 +6,7 @@ ghost use Rattle.pdc_arrival.specs.declared.arrival.ColumnSection.{ColumnSection
 ghost use Rattle.pdc_merge.specs.Cells.{blocks_len};
 ghost use Rattle.pdc_merge.specs.Held.{held_section_of};
 ghost use Rattle.pdc_merge.specs.declared.held_layout.HeldSection.{HeldSection as HeldSectionData};
-ghost use Rattle.pdc_table.specs.pdc_open_row.Parts.{laid_out};
+ghost use Rattle.pdc_table.specs.pdc_columns.Parts.{laid_out};
 
 use arrayvec::ArrayVec;
 use pdc_arrival::{ColumnSection, Stamp};
@@ -59,7 +59,7 @@ impl Model for HeldLayout {
     ghost use Rattle.pdc_merge.specs.Cells.{blocks_len};
     ghost use Rattle.pdc_merge.specs.Held.{LayoutView};
     ghost use Rattle.pdc_merge.specs.declared.held_layout.HeldSection.{HeldSection as HeldSectionData};
-    ghost use Rattle.pdc_table.specs.pdc_open_row.Parts.{laid_out};
+    ghost use Rattle.pdc_table.specs.pdc_columns.Parts.{laid_out};
 
     ghost Value = { LayoutView };
 

@@ -1,8 +1,23 @@
 -- Whether each required stream was taken, eight streams at a step.
-use Rattle.std.proofs.Common.{◌≡◌, ℕ, ◌+◌, ◌≤◌, Bool, true, false, not, ◌&&◌, ◌||◌, List, [], ◌∷◌, length, take, drop, get_or, refl, sym, ◌∙◌, ap, arith, zero, suc}
-use Rattle.std.proofs.lemmas.List.{drop_all, get_or_default}
+use Rattle.std.proofs.Common.{◌≡◌, ℕ, ◌+◌, ◌≤◌, Bool, true, false, not, ◌&&◌, ◌||◌, List, [], ◌∷◌, length, take, drop, get_or, refl, sym, ◌∙◌, ap, arith, zero, suc, inl, inr, add-one, drop-cons, ◌<◌}
+use Rattle.std.proofs.lemmas.Bool.{cases_lt}
+use Rattle.std.proofs.lemmas.List.{drop_all, get_or_default, get_or_past}
 use Rattle.pdc_open_row.specs.Due.{all_taken}
-use Rattle.pdc_open_row.proofs.RowSteps.{taken_step}
+
+-- a stream that is not there is not waited for
+or_true : (b : Bool) → (b || true) ≡ true
+or_true true = refl
+or_true false = refl
+
+none_left : (rs : List Bool) → all_taken rs [] ≡ true
+none_left [] = refl
+none_left (r ∷ rs) = refl
+
+pub taken_step : (rs ts : List Bool) (i : ℕ) → i < length rs → all_taken (drop i rs) (drop i ts) ≡ (not (get_or rs i false) || get_or ts i true) && all_taken (drop (i + 1) rs) (drop (i + 1) ts)
+taken_step rs ts i h = elim (cases_lt i (length ts)) [
+  | inl k ↦ rw (add-one, drop-cons rs i false, drop-cons ts i true) refl
+  | inr k ↦ rw (drop_all i ts k, drop_all (i + 1) ts (omega arith), get_or_past ts i true k, none_left (drop i rs), none_left (drop (i + 1) rs), or_true (not (get_or rs i false))) refl
+]
 
 and_again : (a b c : Bool) → (a && b) && c ≡ a && (b && c)
 and_again true b c = refl

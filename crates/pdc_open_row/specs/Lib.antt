@@ -1,14 +1,11 @@
-pub mod Chosen
 pub mod Due
-pub mod Layout
-pub mod OpenRowParts
-pub mod Parts
 pub mod Row
 pub mod Streams
 pub mod Taking
 pub mod Twin
 pub mod Views
-pub use Rattle.pdc_row.specs as pdc_row
-pub use Rattle.pdc_row.specs.pdc_block
-pub use Rattle.pdc_row.specs.pdc_cfg
-pub use Rattle.pdc_memory.specs as pdc_memory
+pub use Rattle.pdc_columns.specs as pdc_columns
+pub use Rattle.pdc_columns.specs.pdc_row
+pub use Rattle.pdc_columns.specs.pdc_block
+pub use Rattle.pdc_columns.specs.pdc_cfg
+pub use Rattle.pdc_columns.specs.pdc_memory

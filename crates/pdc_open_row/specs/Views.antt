@@ -1,11 +1,6 @@
 -- What an open instant holds, however a table keeps it.
-use Rattle.std.specs.Prelude.{ℕ, Bool, false, if◌then◌else◌, List, length, replicate, Option, None, Some}
-use Rattle.pdc_row.specs.CellView.{CellView}
-
--- what the lanes of a column hold at an instant; with one lane the second holds nothing
-pub record ColumnView : Type 0 where
-  pub first : Option CellView
-  pub second : Option CellView
+use Rattle.std.specs.Prelude.{ℕ, Bool, false, List, length, replicate}
+use Rattle.pdc_columns.specs.Views.{ColumnView, empty_column}
 
 -- an open instant: its age in ticks, for each stream whether it was taken, and what each column holds
 pub record OpenRowView : Type 0 where
@@ -13,14 +8,6 @@ pub record OpenRowView : Type 0 where
   pub age : ℕ
   pub taken : List Bool
   pub columns : List ColumnView
-
--- the cell, where there is one
-abbrev pub kept : Bool → CellView → Option CellView
-kept is_held cell = if is_held then Some cell else None
-
--- the column in which nothing was taken
-abbrev pub empty_column : ColumnView
-empty_column = record { first = None; second = None }
 
 -- the row of an instant in which nothing was taken
 abbrev pub blank_row : (streams columns instant : ℕ) → OpenRowView

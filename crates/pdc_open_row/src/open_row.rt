@@ -1,29 +1,30 @@
 //! The row of an instant that is open.
 ghost use Rattle.std.specs.Prelude.{◌≡◌, ◌+◌, ◌<◌, ◌≤◌, ◌++◌, IfOk, IfSome, OnErr, drop, length};
 ghost use Rattle.std.specs.Prelude.{Some};
-ghost use Rattle.pdc_memory.specs.Asking.{SomeWasRefused};
+ghost use Rattle.pdc_columns.specs.pdc_memory.Asking.{SomeWasRefused};
 ghost use Rattle.std.specs.Prelude.{if◌then◌else◌, replicate, true};
-ghost use Rattle.pdc_row.specs.Quality.{quality_of, worst_of};
-ghost use Rattle.pdc_row.specs.RowView.{row_view};
-ghost use Rattle.pdc_open_row.specs.Views.{at_age, blank_row, empty_column, spent};
+ghost use Rattle.pdc_columns.specs.pdc_row.Quality.{quality_of, worst_of};
+ghost use Rattle.pdc_columns.specs.pdc_row.RowView.{row_view};
+ghost use Rattle.pdc_columns.specs.Views.{empty_column};
+ghost use Rattle.pdc_open_row.specs.Views.{at_age, blank_row, spent};
 ghost use Rattle.pdc_open_row.specs.Views.{without_instant};
-ghost use Rattle.pdc_open_row.specs.Row.{blocks_of, qualities_of, row_of};
+ghost use Rattle.pdc_columns.specs.Giving.{blocks_of, qualities_of};
+ghost use Rattle.pdc_open_row.specs.Row.{row_of};
 ghost use Rattle.pdc_open_row.specs.Due.{all_taken, is_due};
-ghost use Rattle.pdc_open_row.specs.Taking.{HaveColumns, answer_at, conflicts, is_taken};
+ghost use Rattle.pdc_columns.specs.Taking.{HaveColumns, conflicts};
+ghost use Rattle.pdc_open_row.specs.Taking.{answer_at, is_taken};
 ghost use Rattle.pdc_open_row.specs.Taking.{with_frame, without_column, without_stream};
-ghost use Rattle.pdc_open_row.specs.Twin.{IsTwin, lowest};
-ghost use Rattle.pdc_open_row.specs.Chosen.{disagreements_of};
-ghost use Rattle.pdc_open_row.specs.Layout.{layout_view};
-ghost use Rattle.pdc_open_row.specs.OpenRowParts.{worst_kept};
+ghost use Rattle.pdc_columns.specs.Twin.{IsTwin, lowest};
+ghost use Rattle.pdc_columns.specs.Chosen.{disagreements_of};
+ghost use Rattle.pdc_columns.specs.Layout.{layout_view};
+ghost use Rattle.pdc_columns.specs.ColumnParts.{worst_kept};
 
-use crate::blocks::Blocks;
-use crate::columns::Columns;
-use crate::row_blocks::{WORST_QUALITY, give, quality_below};
 use crate::streams::{all_taken, falses};
-use crate::{MAX_COLUMNS, PutOutcome, RowLayout, WaitRule, copy_items};
+use crate::{PutOutcome, WaitRule};
 use arrayvec::ArrayVec;
-use pdc_memory::HeldBox;
-use pdc_row::{CopyFrom, DueRow, RowBlocks, Shape};
+use pdc_columns::{
+    Blocks, Columns, CopyFrom, DueRow, HeldBox, MAX_COLUMNS, RowBlocks, RowLayout, copy_items,
+};
 use std::alloc::{AllocError, Global};
 use std::marker::Model;
 
@@ -47,7 +48,7 @@ pub struct OpenRow {
 
 impl Model for OpenRow {
     ghost use Rattle.std.specs.Prelude.{◌≡◌, false};
-    ghost use Rattle.pdc_open_row.specs.Taking.{any_second};
+    ghost use Rattle.pdc_columns.specs.Taking.{any_second};
     ghost use Rattle.pdc_open_row.specs.Views.{OpenRowView};
 
     ghost Value = { OpenRowView };
@@ -234,14 +235,7 @@ impl OpenRow {
         if !self.has_second {
             return 0;
         }
-        if self.columns.are_one() {
-            return 0;
-        }
-        let mut count = 0;
-        for (place, shape) in layout.shapes.as_slice().iter().enumerate() {
-            count += self.columns.disagreements_at(place, *shape);
-        }
-        count
+        self.columns.disagreements(layout.shapes.as_slice())
     }
 
     /// The row that it closes to.
@@ -249,7 +243,9 @@ impl OpenRow {
         ensures { row_view result ≡ row_of (layout_view layout.now) self.now }
     {
         let mut blocks = RowBlocks::new();
-        let quality = self.fill_each(layout.shapes.as_slice(), &mut blocks);
+        let quality = self
+            .columns
+            .give_each(layout.shapes.as_slice(), &mut blocks);
         DueRow {
             instant: self.instant,
             start: layout.start,
@@ -260,37 +256,17 @@ impl OpenRow {
     }
 
     /// Hands out the row that it closes to: nearly always that in which its blocks were put, and the one that was lent stays in its place. Else it
-    /// is written block after block over the one that was lent, and columns that hold nothing are laid out as the layout has them. Then no
-    /// column holds anything.
+    /// is written block after block over the one that was lent. Then no column holds anything.
     pub fn hand_out(&mut self, layout: &RowLayout, row: &mut HeldBox<DueRow>)
         ensures row { row_view row.new.value ≡ row_of (layout_view layout.now) self.old }
         ensures spent { self.new ≡ spent self.old }
     {
-        let quality = match self.columns.hand_out(layout, row) {
-            Some(above) => quality_below(above),
-            None => self.copy_out(layout, &mut row.get_mut().blocks),
-        };
+        let quality = self.columns.hand_out(layout, row);
         let row = row.get_mut();
         row.instant = self.instant;
         row.start = layout.start;
         row.change = layout.change;
         row.quality = quality;
-    }
-
-    /// Makes these the blocks of the row that it closes to, block after block, and empties the columns. It answers its quality.
-    #[inline(never)]
-    fn copy_out(&mut self, layout: &RowLayout, blocks: &mut RowBlocks) -> u8
-        ensures blocks { blocks.new ≡ blocks_of layout.now.shapes.items self.old.columns }
-        ensures quality { result ≡
-            quality_of (qualities_of layout.now.shapes.items self.old.columns) }
-        ensures fits { result ≤ WORST_QUALITY }
-        ensures few { length blocks.new ≤ MAX_COLUMNS }
-        ensures spent { self.new ≡ spent self.old }
-    {
-        let quality = self.fill_each(layout.shapes.as_slice(), blocks);
-        self.columns.lay_out_in(layout);
-        self.columns.forget_all();
-        quality
     }
 
     /// Takes the memory of the other row's blocks and gives it its own, where it is known that neither row holds anything: so the blocks that come
@@ -300,51 +276,6 @@ impl OpenRow {
         ensures other { other.new ≡ other.old }
     {
         self.columns.trade(&mut other.columns)
-    }
-
-    /// Appends the block of the column at this place, if it has a shape. It answers the number above the worst quality so far.
-    #[inline(always)]
-    fn give_at(
-        &self,
-        shapes: &[Option<Shape>],
-        place: usize,
-        blocks: &mut RowBlocks,
-        above: u32,
-    ) -> u32
-        requires place { place < length shapes.now }
-        requires room { length blocks.old < MAX_COLUMNS }
-        requires above { above ≤ WORST_QUALITY + 1 }
-        ensures blocks { blocks.new
-            ++ blocks_of (drop (place + 1) shapes.now) (drop (place + 1) self.now.columns)
-            ≡ blocks.old ++ blocks_of (drop place shapes.now) (drop place self.now.columns) }
-        ensures quality { worst_of (worst_kept result)
-            (qualities_of (drop (place + 1) shapes.now) (drop (place + 1) self.now.columns))
-            ≡ worst_of (worst_kept above)
-            (qualities_of (drop place shapes.now) (drop place self.now.columns)) }
-        ensures fits { result ≤ WORST_QUALITY + 1 }
-        ensures few { length blocks.new ≤ length blocks.old + 1 }
-    {
-        match shapes[place] {
-            Some(shape) => give(self.columns.chosen_at(place), shape, blocks, above),
-            None => above,
-        }
-    }
-
-    /// Makes these the blocks of the row that it closes to, block after block, and answers its quality. A call of its own, since it is seldom.
-    #[inline(never)]
-    fn fill_each(&self, shapes: &[Option<Shape>], blocks: &mut RowBlocks) -> u8
-        requires { length shapes.now ≤ MAX_COLUMNS }
-        ensures blocks { blocks.new ≡ blocks_of shapes.now self.now.columns }
-        ensures quality { result ≡ quality_of (qualities_of shapes.now self.now.columns) }
-        ensures fits { result ≤ WORST_QUALITY }
-        ensures few { length blocks.new ≤ MAX_COLUMNS }
-    {
-        blocks.clear();
-        let mut above = 0;
-        for place in 0..shapes.len() {
-            above = self.give_at(shapes, place, blocks, above);
-        }
-        quality_below(above)
     }
 }
 

@@ -2,8 +2,8 @@
 ghost use Rattle.std.specs.Prelude.{◌≡◌, ◌≤◌, false, length, replicate};
 ghost use Rattle.pdc_open_row.specs.Due.{all_taken};
 
-use crate::MAX_COLUMNS;
 use arrayvec::ArrayVec;
+use pdc_columns::MAX_COLUMNS;
 
 /// So many times false.
 pub fn falses(count: usize) -> ArrayVec<bool, MAX_COLUMNS>

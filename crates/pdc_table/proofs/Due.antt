@@ -13,7 +13,7 @@ use Rattle.pdc_open_row.specs.Due.{all_taken, is_due}
 use Rattle.pdc_table.specs.Content.{Content, new_content, streams_of}
 use Rattle.pdc_open_row.specs.Streams.{stream_count}
 use Rattle.pdc_table.specs.Histories.{closing_after, is_awaited, is_due_after, is_taken_since, open_row_after, ticks_since_take}
-use Rattle.pdc_open_row.specs.Layout.{LayoutView}
+use Rattle.pdc_open_row.specs.pdc_columns.Layout.{LayoutView}
 use Rattle.pdc_table.specs.OpenInstants.{instants_of}
 use Rattle.pdc_table.specs.Placing.{row_at}
 use Rattle.pdc_table.specs.Steps.{after_take, closed_by, closing_of, put_answer}

@@ -9,7 +9,7 @@ use Rattle.pdc_table.specs.Closing.{aged}
 use Rattle.pdc_table.specs.Content.{Content, IsPut, lane_of, streams_of}
 use Rattle.pdc_open_row.specs.Streams.{stream_count}
 use Rattle.pdc_table.specs.Histories.{is_take, open_row_after, was_taken}
-use Rattle.pdc_open_row.specs.Layout.{LayoutView}
+use Rattle.pdc_open_row.specs.pdc_columns.Layout.{LayoutView}
 use Rattle.pdc_table.specs.Placing.{row_at}
 use Rattle.pdc_table.specs.Steps.{after_take, fresh_row, is_near_all, put_answer}
 use Rattle.pdc_open_row.specs.Taking.{answer_at, is_taken, with_frame, without_column, without_stream}

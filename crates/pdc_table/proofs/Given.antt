@@ -4,8 +4,8 @@ use Rattle.std.proofs.lemmas.Bool.{cases_eq}
 use Rattle.std.proofs.lemmas.List.{get_or-set_same, get_or-set_other}
 use Rattle.pdc_open_row.specs.pdc_row.CellView.{CellView}
 use Rattle.pdc_table.specs.Content.{HaveOwnColumns, NoneIsOf}
-use Rattle.pdc_open_row.specs.Taking.{given_for, with_cell, with_cells, with_given}
-use Rattle.pdc_open_row.specs.Views.{ColumnView, empty_column}
+use Rattle.pdc_open_row.specs.pdc_columns.Taking.{given_for, with_cell, with_cells, with_given}
+use Rattle.pdc_open_row.specs.pdc_columns.Views.{ColumnView, empty_column}
 
 eqb_yes : (m n : ℕ) → m ≡ n → eqb m n ≡ true
 eqb_yes m n h = search rules

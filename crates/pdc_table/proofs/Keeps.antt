@@ -9,17 +9,20 @@ use Rattle.pdc_open_row.specs.pdc_row.Chosen.{present_of, first_of, block_or_abs
 use Rattle.pdc_open_row.specs.pdc_row.Quality.{greatest}
 use Rattle.pdc_open_row.specs.pdc_row.Rising.{Rises, AreBelow, AreNear, place}
 use Rattle.pdc_open_row.specs.pdc_row.RowView.{RowView, row_instants}
-use Rattle.pdc_open_row.specs.Chosen.{block_in}
+use Rattle.pdc_open_row.specs.pdc_columns.Chosen.{block_in}
 use Rattle.pdc_table.specs.Closing.{aged, closes, closing, staying}
 use Rattle.pdc_open_row.specs.Due.{is_due}
 use Rattle.pdc_table.specs.Content.{Content, IsContent, HasPlaces, HaveLayoutShapes, HasShape, HaveShapes, held_instants, streams_of}
-use Rattle.pdc_open_row.specs.Layout.{LayoutView}
+use Rattle.pdc_open_row.specs.pdc_columns.Layout.{LayoutView}
 use Rattle.pdc_table.specs.OpenInstants.{instants_of}
 use Rattle.pdc_table.specs.Placing.{row_at, with_row}
-use Rattle.pdc_open_row.specs.Row.{row_of, blocks_of}
+use Rattle.pdc_open_row.specs.pdc_columns.Giving.{blocks_of}
+use Rattle.pdc_open_row.specs.Row.{row_of}
 use Rattle.pdc_table.specs.Steps.{after_drop_column, after_drop_stream, after_pop, after_require, after_tick, closing_of, closed_by, fresh_row, is_near_all, shape_of, shapes_given, staying_of}
-use Rattle.pdc_open_row.specs.Taking.{with_cell, with_cells, with_frame, without_stream, without_column}
-use Rattle.pdc_open_row.specs.Views.{ColumnView, OpenRowView, blank_row, empty_column}
+use Rattle.pdc_open_row.specs.pdc_columns.Taking.{with_cell, with_cells}
+use Rattle.pdc_open_row.specs.Taking.{with_frame, without_stream, without_column}
+use Rattle.pdc_open_row.specs.pdc_columns.Views.{ColumnView, empty_column}
+use Rattle.pdc_open_row.specs.Views.{OpenRowView, blank_row}
 use Rattle.pdc_open_row.specs.declared.wait_rule.WaitRule.{WaitRule}
 use Rattle.pdc_table.proofs.Closes.{closing-front, staying-back}
 use Rattle.pdc_open_row.specs.pdc_row.RisingLaws.{RisingLaws, Below, At, Above}

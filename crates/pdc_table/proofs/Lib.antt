@@ -18,3 +18,4 @@ pub mod RingRows
 pub mod RowAt
 pub mod Told
 pub use Rattle.pdc_open_row.proofs as pdc_open_row
+pub use Rattle.pdc_open_row.proofs.pdc_columns

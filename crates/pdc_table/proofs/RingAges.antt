@@ -7,12 +7,13 @@ use Rattle.std.proofs.lemmas.Bool.{eq-eqb, false≢true}
 use Rattle.std.proofs.lemmas.List.{length-map, length-set}
 use Rattle.pdc_open_row.specs.pdc_row.CellView.{CellView}
 use Rattle.pdc_table.specs.Closing.{aged}
-use Rattle.pdc_open_row.specs.Layout.{LayoutView}
+use Rattle.pdc_open_row.specs.pdc_columns.Layout.{LayoutView}
 use Rattle.pdc_table.specs.RingRows.{StandAbove, base_row, changed, closed_rows, met_row, older, row_in, rows_in, with_ages}
 use Rattle.pdc_open_row.specs.Views.{OpenRowView, at_age, blank_row}
 use Rattle.pdc_table.specs.Steps.{disagreements_in}
 use Rattle.pdc_open_row.specs.Taking.{answer_at, is_taken, with_frame}
-use Rattle.pdc_open_row.specs.Twin.{IsTwin, IsTwinIn, lowest}
+use Rattle.pdc_open_row.specs.pdc_columns.Twin.{IsTwin, lowest}
+use Rattle.pdc_open_row.specs.Twin.{IsTwinIn}
 use Rattle.pdc_table.specs.Content.{HasPlaces}
 use Rattle.pdc_open_row.specs.declared.outcome.PutOutcome.{PutOutcome}
 use Rattle.pdc_table.specs.Placing.{row_at}

@@ -9,7 +9,7 @@ use Rattle.pdc_open_row.specs.pdc_row.Rising.{Rises, AreBelow, AreNear, is_near}
 use Rattle.pdc_open_row.specs.pdc_row.RisingLaws.{RisingLaws, AreAllNear}
 use Rattle.pdc_open_row.specs.pdc_row.RowView.{RowView, row_instants}
 use Rattle.pdc_table.specs.Content.{Content, IsContent, held_instants}
-use Rattle.pdc_open_row.specs.Layout.{LayoutView}
+use Rattle.pdc_open_row.specs.pdc_columns.Layout.{LayoutView}
 use Rattle.pdc_table.specs.OpenInstants.{instants_of}
 use Rattle.pdc_table.specs.RingRows.{changed, closed_rows, laid, layout_in, no_layout, rows_in}
 use Rattle.pdc_open_row.specs.Row.{row_of}

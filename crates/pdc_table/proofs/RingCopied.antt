@@ -6,7 +6,7 @@ use Rattle.std.proofs.lemmas.Bool.{cases_eq, cases_lt, ne_eqb, false≢true}
 use Rattle.std.proofs.lemmas.Grind.{get_or-set_at}
 use Rattle.std.proofs.lemmas.List.{get_or_default, get_or-set_same, get_or-set_other, length-map, length-set}
 use Rattle.pdc_table.specs.Content.{HasPlaces}
-use Rattle.pdc_open_row.specs.Layout.{LayoutView}
+use Rattle.pdc_open_row.specs.pdc_columns.Layout.{LayoutView}
 use Rattle.pdc_table.specs.RingRows.{StandAbove, changed, closed_rows, copied, no_layout, row_in, rows_in, with_ages}
 use Rattle.pdc_open_row.specs.Views.{OpenRowView, blank_row, without_instant}
 use Rattle.pdc_table.proofs.RingAges.{aged_row}

@@ -1,8 +1,9 @@
 -- A ring whose lowest closed row was handed out: what stands at other places stays.
 use Rattle.std.proofs.Common.{◌≡◌, ◌∙◌, ℕ, ◌%◌, ◌<◌, List, [], ◌∷◌, ◌++◌, ap, arith, drop, length, refl, replicate, subst, sym, take}
 use Rattle.std.proofs.lemmas.List.{drop-map, length-replicate}
-use Rattle.pdc_open_row.specs.Layout.{LayoutView}
-use Rattle.pdc_open_row.specs.Views.{OpenRowView, empty_column, spent}
+use Rattle.pdc_open_row.specs.pdc_columns.Layout.{LayoutView}
+use Rattle.pdc_open_row.specs.pdc_columns.Views.{empty_column}
+use Rattle.pdc_open_row.specs.Views.{OpenRowView, spent}
 use Rattle.pdc_open_row.specs.pdc_row.Rising.{AreNear, Rises}
 use Rattle.pdc_table.specs.Content.{Content, HasPlaces, IsContent, held_instants}
 use Rattle.pdc_table.specs.RingRows.{changed, closed_row, closed_rows, rows_in}

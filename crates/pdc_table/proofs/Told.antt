@@ -12,8 +12,10 @@ use Rattle.pdc_table.specs.Closing.{aged, counter}
 use Rattle.pdc_table.specs.Content.{Content, HasPlaces, HaveOwnColumns, lane_of, streams_of}
 use Rattle.pdc_table.specs.Histories.{first_put, given_by, is_drop_in, is_drop_of, is_of_stream, is_take, is_taken_since, ticks_since_take, was_taken}
 use Rattle.pdc_table.specs.Steps.{after_take, first_cause, put_answer}
-use Rattle.pdc_open_row.specs.Taking.{answer_at, cell_in, conflicts, given_for, is_taken, with_cell, with_cells, with_frame, with_given, without_column, without_stream}
-use Rattle.pdc_open_row.specs.Views.{ColumnView, OpenRowView, blank_row, empty_column}
+use Rattle.pdc_open_row.specs.pdc_columns.Taking.{cell_in, conflicts, given_for, with_cell, with_cells, with_given}
+use Rattle.pdc_open_row.specs.Taking.{answer_at, is_taken, with_frame, without_column, without_stream}
+use Rattle.pdc_open_row.specs.pdc_columns.Views.{ColumnView, empty_column}
+use Rattle.pdc_open_row.specs.Views.{OpenRowView, blank_row}
 use Rattle.pdc_open_row.specs.declared.outcome.PutOutcome.{PutOutcome}
 use Rattle.pdc_open_row.specs.declared.outcome.PutOutcome.TheVariants.{Conflict, Duplicate, Taken}
 use Rattle.pdc_table.proofs.Given.{stands}

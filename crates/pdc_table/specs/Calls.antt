@@ -5,10 +5,10 @@ use Rattle.pdc_open_row.specs.pdc_row.CellView.{CellView}
 use Rattle.pdc_open_row.specs.pdc_row.RowView.{RowView, row_instants}
 use Rattle.pdc_open_row.specs.pdc_row.Rising.{Rises, AreBelow}
 use Rattle.pdc_table.specs.Content.{Content, HaveOwnColumns, IsPut, new_content, streams_of}
-use Rattle.pdc_open_row.specs.Layout.{LayoutView}
+use Rattle.pdc_open_row.specs.pdc_columns.Layout.{LayoutView}
 use Rattle.pdc_table.specs.Steps.{after_put, after_require, after_tick, after_drop_stream, after_drop_column, after_pop, closed_by, pop_answer, put_answer}
-use Rattle.pdc_open_row.specs.Taking.{given_for, with_cells, with_given}
-use Rattle.pdc_open_row.specs.Views.{ColumnView, empty_column}
+use Rattle.pdc_open_row.specs.pdc_columns.Taking.{given_for, with_cells, with_given}
+use Rattle.pdc_open_row.specs.pdc_columns.Views.{ColumnView, empty_column}
 use Rattle.pdc_open_row.specs.declared.outcome.PutOutcome.TheVariants.{Taken}
 use Rattle.pdc_open_row.specs.declared.wait_rule.WaitRule.{WaitRule}
 

@@ -6,10 +6,11 @@ use Rattle.pdc_open_row.specs.pdc_row.CellView.{CellView}
 use Rattle.pdc_open_row.specs.pdc_row.RowView.{RowView, row_instants}
 use Rattle.pdc_open_row.specs.pdc_row.Rising.{Rises, AreBelow, AreNear}
 use Rattle.pdc_table.specs.OpenInstants.{instants_of}
-use Rattle.pdc_open_row.specs.Layout.{LayoutView}
+use Rattle.pdc_open_row.specs.pdc_columns.Layout.{LayoutView}
 use Rattle.pdc_open_row.specs.Streams.{stream_count}
-use Rattle.pdc_open_row.specs.Views.{ColumnView, OpenRowView}
-use Rattle.pdc_open_row.specs.declared.limits.TheConstants.{MAX_COLUMNS}
+use Rattle.pdc_open_row.specs.pdc_columns.Views.{ColumnView}
+use Rattle.pdc_open_row.specs.Views.{OpenRowView}
+use Rattle.pdc_open_row.specs.pdc_columns.declared.limits.TheConstants.{MAX_COLUMNS}
 
 pub record Content : Type 0 where
   -- what is fixed: the window, how many columns there are, and one lane or two

@@ -8,12 +8,14 @@ use Rattle.pdc_table.specs.Calls.{AreAllowed, Call, Put, Require, Tick, DropStre
 use Rattle.pdc_table.specs.Closing.{counter}
 use Rattle.pdc_open_row.specs.Due.{is_over}
 use Rattle.pdc_table.specs.Content.{Content, lane_of, new_content, streams_of}
-use Rattle.pdc_open_row.specs.Layout.{LayoutView}
+use Rattle.pdc_open_row.specs.pdc_columns.Layout.{LayoutView}
 use Rattle.pdc_table.specs.OpenInstants.{instants_of}
 use Rattle.pdc_table.specs.Placing.{row_at}
 use Rattle.pdc_table.specs.Steps.{closed_by, put_answer}
-use Rattle.pdc_open_row.specs.Taking.{cell_in, given_for, is_taken}
-use Rattle.pdc_open_row.specs.Views.{OpenRowView, empty_column}
+use Rattle.pdc_open_row.specs.pdc_columns.Taking.{cell_in, given_for}
+use Rattle.pdc_open_row.specs.Taking.{is_taken}
+use Rattle.pdc_open_row.specs.pdc_columns.Views.{empty_column}
+use Rattle.pdc_open_row.specs.Views.{OpenRowView}
 use Rattle.pdc_open_row.specs.declared.wait_rule.WaitRule.{WaitRule}
 
 -- at this content the call is a put for the instant, and it is taken

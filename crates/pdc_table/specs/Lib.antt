@@ -11,3 +11,5 @@ pub mod RingRows
 pub mod Steps
 pub mod TableView
 pub use Rattle.pdc_open_row.specs as pdc_open_row
+pub use Rattle.pdc_open_row.specs.pdc_columns
+pub use Rattle.pdc_open_row.specs.pdc_memory

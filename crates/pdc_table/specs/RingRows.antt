@@ -3,7 +3,7 @@ use Rattle.std.specs.Prelude.{◌≡◌, ℕ, ◌<◌, ◌+◌, ◌%◌, ◌==�
 use Rattle.std.specs.Option.{unwrap_or}
 use Rattle.pdc_open_row.specs.pdc_row.RowView.{RowView}
 use Rattle.pdc_table.specs.Closing.{counter}
-use Rattle.pdc_open_row.specs.Layout.{LayoutView}
+use Rattle.pdc_open_row.specs.pdc_columns.Layout.{LayoutView}
 use Rattle.pdc_open_row.specs.Row.{row_of}
 use Rattle.pdc_open_row.specs.Views.{OpenRowView, at_age, blank_row}
 

@@ -6,7 +6,7 @@ use Rattle.pdc_open_row.specs.pdc_row.CellView.{BlockView, CellView}
 use Rattle.pdc_open_row.specs.pdc_row.Quality.{greatest}
 use Rattle.pdc_open_row.specs.pdc_row.Rising.{is_near}
 use Rattle.pdc_open_row.specs.pdc_row.RowView.{RowView}
-use Rattle.pdc_open_row.specs.Chosen.{disagreements_of}
+use Rattle.pdc_open_row.specs.pdc_columns.Chosen.{disagreements_of}
 use Rattle.pdc_open_row.specs.Due.{all_taken}
 use Rattle.pdc_open_row.specs.Row.{row_of}
 use Rattle.pdc_table.specs.OpenInstants.{instants_of}
@@ -14,7 +14,7 @@ use Rattle.pdc_table.specs.Closing.{aged, closing, staying, counter}
 use Rattle.pdc_table.specs.Placing.{row_at, with_row}
 use Rattle.pdc_open_row.specs.Taking.{answer_at, is_taken, with_frame, without_stream, without_column}
 use Rattle.pdc_table.specs.Content.{Content, lane_of, held_instants, streams_of}
-use Rattle.pdc_open_row.specs.Layout.{LayoutView}
+use Rattle.pdc_open_row.specs.pdc_columns.Layout.{LayoutView}
 use Rattle.pdc_open_row.specs.Views.{OpenRowView, blank_row}
 use Rattle.pdc_open_row.specs.declared.wait_rule.WaitRule.{WaitRule}
 use Rattle.pdc_open_row.specs.declared.outcome.PutOutcome.{PutOutcome}

@@ -1,7 +1,7 @@
 //! The blocks of a frame, listed where they lie in its payload.
 ghost use Rattle.std.specs.Prelude.{◌≡◌, ◌+◌, ◌++◌, ◌≤◌, ℕ, length, take};
-ghost use Rattle.pdc_open_row.specs.Parts.{cut_cells, parts_len};
-ghost use Rattle.pdc_open_row.specs.Taking.{body_cells_of};
+ghost use Rattle.pdc_open_row.specs.pdc_columns.Parts.{cut_cells, parts_len};
+ghost use Rattle.pdc_open_row.specs.pdc_columns.Taking.{body_cells_of};
 ghost use Rattle.pdc_open_row.specs.pdc_block.Block.{words_in};
 
 use crate::MAX_COLUMNS;

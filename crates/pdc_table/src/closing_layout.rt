@@ -1,6 +1,6 @@
 //! The layout that a row closed under.
 ghost use Rattle.std.specs.Prelude.{◌≡◌};
-ghost use Rattle.pdc_open_row.specs.Layout.{layout_view};
+ghost use Rattle.pdc_open_row.specs.pdc_columns.Layout.{layout_view};
 
 use crate::RowLayout;
 use arrayvec::ArrayVec;
@@ -14,7 +14,7 @@ pub struct ClosingLayout {
 }
 
 impl Model for ClosingLayout {
-    ghost use Rattle.pdc_open_row.specs.Layout.{LayoutView, layout_view};
+    ghost use Rattle.pdc_open_row.specs.pdc_columns.Layout.{LayoutView, layout_view};
 
     ghost Value = { LayoutView };
 

@@ -1,6 +1,6 @@
 //! Parts of a payload that are one for each column, in the order of the columns.
 ghost use Rattle.std.specs.Prelude.{◌≡◌, ◌+◌, ◌≤◌, length, map};
-ghost use Rattle.pdc_open_row.specs.Parts.{are_laid_out, laid_out};
+ghost use Rattle.pdc_open_row.specs.pdc_columns.Parts.{are_laid_out, laid_out};
 
 use crate::MAX_COLUMNS;
 use pdc_open_row::{Part, Shape, Shapes};

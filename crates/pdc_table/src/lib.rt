@@ -32,7 +32,7 @@ pub use laws::{
     rows_close_where_due, rows_come_out_rising,
 };
 pub use pdc_open_row::{
-    Blocks, CheckedFront, CopyFrom, Cut, DueRow, HeldBox, KnownFront, Listed, MAX_COLUMNS,
+    Blocks, CheckedFront, CopyFrom, Cut, DueRow, Held, HeldBox, KnownFront, Listed, MAX_COLUMNS,
     MAX_LANES, MAX_WINDOW, MIN_WINDOW, OpenRow, Part, Places, PutOutcome, RowBlocks, RowLayout,
     Shapes, WaitRule, copy_block, copy_each, copy_items, falses,
 };

@@ -5,7 +5,7 @@ ghost use Rattle.std.specs.List.{All, list_all, list_any, prefix_len, slice_get}
 ghost use Rattle.pdc_open_row.specs.pdc_row.Rising.{AreNear, Rises, highest_of, is_near};
 ghost use Rattle.pdc_table.specs.Closing.{counter};
 ghost use Rattle.pdc_open_row.specs.Due.{is_due};
-ghost use Rattle.pdc_open_row.specs.Layout.{layout_view};
+ghost use Rattle.pdc_open_row.specs.pdc_columns.Layout.{layout_view};
 ghost use Rattle.pdc_table.specs.RingRows.{changed, row_in, rows_in};
 ghost use Rattle.pdc_table.specs.RingRows.{with_ages};
 ghost use Rattle.pdc_open_row.specs.Views.{OpenRowView, without_instant};

@@ -9,7 +9,7 @@ ghost use Rattle.pdc_open_row.specs.pdc_row.Rising.{Rises};
 ghost use Rattle.pdc_open_row.specs.pdc_row.RowView.{row_view};
 ghost use Rattle.pdc_table.specs.Closing.{closing, counter, staying};
 ghost use Rattle.pdc_table.specs.KeptRow.{popped_into};
-ghost use Rattle.pdc_open_row.specs.Layout.{layout_view};
+ghost use Rattle.pdc_open_row.specs.pdc_columns.Layout.{layout_view};
 ghost use Rattle.pdc_open_row.specs.Views.{spent};
 ghost use Rattle.pdc_table.specs.OpenInstants.{instants_of};
 ghost use Rattle.pdc_table.specs.RingRows.{changed, closed_rows, copied, laid, no_layout, row_in};

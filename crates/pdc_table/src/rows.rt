@@ -12,7 +12,8 @@ ghost use Rattle.std.specs.List.{All, AllByRecursion, prefix_len};
 ghost use Rattle.pdc_open_row.specs.pdc_row.Rising.{Rises, place};
 ghost use Rattle.pdc_table.specs.RingRows.{base_row, copied, met_row, row_in};
 ghost use Rattle.pdc_open_row.specs.Views.{blank_row};
-ghost use Rattle.pdc_open_row.specs.Taking.{HaveColumns, answer_at, is_taken, with_frame};
+ghost use Rattle.pdc_open_row.specs.pdc_columns.Taking.{HaveColumns};
+ghost use Rattle.pdc_open_row.specs.Taking.{answer_at, is_taken, with_frame};
 ghost use Rattle.pdc_open_row.specs.Twin.{IsTwinIn};
 
 use crate::ages::Ages;

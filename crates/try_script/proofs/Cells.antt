@@ -2,7 +2,7 @@
 use Rattle.std.proofs.Common.{ℕ, ◌<◌, List, [], ◌∷◌, arith, suc, zero}
 use Rattle.std.specs.List.{All}
 use Rattle.pdc_row.specs.CellView.{BlockView, CellView}
-use Rattle.pdc_table.specs.pdc_open_row.Taking.{cells_in}
+use Rattle.pdc_table.specs.pdc_columns.Taking.{cells_in}
 
 -- their columns are those of the blocks
 pub cells_exist : {B : Type 0} → (view : B → BlockView) (columns quality : ℕ) (blocks : List (ℕ × B)) → All (λ (cell : ℕ × B). cell.0 < columns) blocks → All (λ (cell : ℕ × CellView). cell.0 < columns) (cells_in view blocks quality)

@@ -5,10 +5,11 @@ ghost use Rattle.pdc_memory.specs.Asking.{SomeWasRefused};
 ghost use Rattle.pdc_row.specs.RowView.{row_view};
 ghost use Rattle.pdc_table.specs.Closing.{aged};
 ghost use Rattle.pdc_table.specs.pdc_open_row.Due.{all_taken, is_due};
-ghost use Rattle.pdc_table.specs.pdc_open_row.Layout.{layout_view};
+ghost use Rattle.pdc_table.specs.pdc_columns.Layout.{layout_view};
 ghost use Rattle.pdc_table.specs.pdc_open_row.Row.{row_of};
-ghost use Rattle.pdc_table.specs.pdc_open_row.Taking.{answer_at, cells_in, is_taken, with_frame, without_column, without_stream};
-ghost use Rattle.pdc_table.specs.pdc_open_row.Chosen.{disagreements_of};
+ghost use Rattle.pdc_table.specs.pdc_columns.Taking.{cells_in};
+ghost use Rattle.pdc_table.specs.pdc_open_row.Taking.{answer_at, is_taken, with_frame, without_column, without_stream};
+ghost use Rattle.pdc_table.specs.pdc_columns.Chosen.{disagreements_of};
 ghost use Rattle.pdc_table.specs.pdc_open_row.Views.{blank_row};
 
 use pdc_row::{CopyFrom, DueRow, Offered};

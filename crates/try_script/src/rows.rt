@@ -14,9 +14,10 @@ ghost use Rattle.pdc_table.specs.OpenInstants.{instants_of};
 ghost use Rattle.pdc_table.specs.pdc_open_row.Row.{row_of};
 ghost use Rattle.pdc_row.specs.Quality.{greatest};
 ghost use Rattle.pdc_table.specs.Steps.{disagreements_in};
-ghost use Rattle.pdc_table.specs.pdc_open_row.Taking.{answer_at, cells_in, is_taken, with_frame, without_column, without_stream};
+ghost use Rattle.pdc_table.specs.pdc_columns.Taking.{cells_in};
+ghost use Rattle.pdc_table.specs.pdc_open_row.Taking.{answer_at, is_taken, with_frame, without_column, without_stream};
 ghost use Rattle.pdc_table.specs.Content.{HasPlaces};
-ghost use Rattle.pdc_table.specs.pdc_open_row.Layout.{layout_view};
+ghost use Rattle.pdc_table.specs.pdc_columns.Layout.{layout_view};
 ghost use Rattle.pdc_table.specs.pdc_open_row.Views.{OpenRowView, blank_row};
 
 use crate::aged_row::AgedRow;

@@ -2,7 +2,7 @@
 ghost use Rattle.std.specs.Prelude.{◌≡◌};
 ghost use Rattle.pdc_table.specs.Content.{HasSizesOf, IsContent, IsPut};
 ghost use Rattle.pdc_table.specs.Steps.{after_put, put_answer};
-ghost use Rattle.pdc_table.specs.pdc_open_row.Taking.{cells_in};
+ghost use Rattle.pdc_table.specs.pdc_columns.Taking.{cells_in};
 
 use crate::aged_row::AgedRow;
 use crate::rows::{self, DueRule, FrameHead};

@@ -4,7 +4,7 @@ use Rattle.pdc_block.specs.Block.{words_in}
 use Rattle.pdc_block.specs.Laws.{WordsAreCut}
 use Rattle.pdc_row.specs.CellView.{CellView}
 use Rattle.pdc_table.specs.Content.{IsPut}
-use Rattle.pdc_table.specs.pdc_open_row.Parts.{cut_cells}
+use Rattle.pdc_table.specs.pdc_columns.Parts.{cut_cells}
 use Rattle.pdc_life.specs.Answer.{outcome_in_time, with_cells}
 use Rattle.pdc_life.specs.Arrival.{Data}
 use Rattle.pdc_life.specs.Life.{Arrive}

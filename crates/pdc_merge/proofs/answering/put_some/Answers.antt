@@ -3,7 +3,7 @@ use Rattle.std.proofs.lemmas.List.{length-drop, take_all}
 use Rattle.pdc_block.specs.Block.{words_in}
 use Rattle.pdc_row.specs.CellView.{CellView}
 use Rattle.pdc_table.specs.Content.{IsPut}
-use Rattle.pdc_table.specs.pdc_open_row.Taking.{body_cells_of}
+use Rattle.pdc_table.specs.pdc_columns.Taking.{body_cells_of}
 use Rattle.pdc_merge.specs.Cells.{cells_in}
 use Rattle.pdc_merge.specs.declared.held_layout.HeldSection.{HeldSection}
 use Rattle.pdc_merge.proofs.Placed.{is_put}

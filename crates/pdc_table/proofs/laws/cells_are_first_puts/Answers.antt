@@ -1,8 +1,8 @@
 use Rattle.std.proofs.Common.{◌≡◌, get_or, refl}
 use Rattle.pdc_table.specs.Content.{lane_of, new_content}
 use Rattle.pdc_table.specs.Histories.{first_put}
-use Rattle.pdc_open_row.specs.Taking.{cell_in}
-use Rattle.pdc_open_row.specs.Views.{empty_column}
+use Rattle.pdc_open_row.specs.pdc_columns.Taking.{cell_in}
+use Rattle.pdc_open_row.specs.pdc_columns.Views.{empty_column}
 use Rattle.pdc_table.proofs.Follows.{of_told}
 use Rattle.pdc_table.proofs.laws.cells_are_first_puts.Goals as goal
 

@@ -1,6 +1,6 @@
 use Rattle.std.proofs.Common.{◌≡◌, ◌+◌, ◌<◌, ◌^◌, drop}
 use Rattle.pdc_table.specs.Closing.{counter}
-use Rattle.pdc_open_row.specs.Layout.{layout_view}
+use Rattle.pdc_open_row.specs.pdc_columns.Layout.{layout_view}
 use Rattle.pdc_table.specs.RingRows.{rows_in}
 use Rattle.pdc_table.specs.Steps.{disagreements_in}
 use Rattle.pdc_table.proofs.ring.count_disagreements.Given as goal

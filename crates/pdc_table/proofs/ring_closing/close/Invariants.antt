@@ -1,5 +1,5 @@
 use Rattle.std.proofs.Common.{◌≡◌, ◌+◌, ◌++◌, drop, length, take}
-use Rattle.pdc_open_row.specs.Layout.{layout_view}
+use Rattle.pdc_open_row.specs.pdc_columns.Layout.{layout_view}
 use Rattle.pdc_table.specs.RingRows.{laid}
 use Rattle.pdc_table.proofs.ring_closing.close.Given as goal
 

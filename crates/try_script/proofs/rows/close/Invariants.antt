@@ -1,6 +1,6 @@
 use Rattle.std.proofs.Common.{length, ◌≡◌, ◌+◌, ◌++◌, map, take}
 use Rattle.pdc_row.specs.RowView.{row_view}
-use Rattle.pdc_table.specs.pdc_open_row.Layout.{layout_view}
+use Rattle.pdc_table.specs.pdc_columns.Layout.{layout_view}
 use Rattle.pdc_table.specs.pdc_open_row.Row.{row_of}
 use Rattle.try_script.proofs.rows.close.Given as goal
 

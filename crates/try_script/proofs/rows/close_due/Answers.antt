@@ -3,7 +3,7 @@ use Rattle.std.specs.List.{prefix_len}
 use Rattle.pdc_table.specs.Closing.{counter}
 use Rattle.pdc_table.specs.pdc_open_row.Due.{is_due}
 use Rattle.pdc_row.specs.RowView.{row_view}
-use Rattle.pdc_table.specs.pdc_open_row.Layout.{layout_view}
+use Rattle.pdc_table.specs.pdc_columns.Layout.{layout_view}
 use Rattle.pdc_table.specs.pdc_open_row.Row.{row_of}
 use Rattle.pdc_row.specs.Quality.{greatest}
 use Rattle.pdc_table.specs.OpenInstants.{instants_of}

@@ -1,6 +1,6 @@
 use Rattle.std.proofs.Common.{◌≡◌, ◌+◌, ◌<◌, ◌^◌, drop}
 use Rattle.pdc_table.specs.Closing.{counter}
-use Rattle.pdc_table.specs.pdc_open_row.Layout.{layout_view}
+use Rattle.pdc_table.specs.pdc_columns.Layout.{layout_view}
 use Rattle.pdc_table.specs.Steps.{disagreements_in}
 use Rattle.try_script.proofs.rows.count_disagreements.Given as goal
 

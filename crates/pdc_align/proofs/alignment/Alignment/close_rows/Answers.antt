@@ -1,7 +1,7 @@
 use Rattle.std.proofs.Common.{◌∙◌, ap, sym}
 use Rattle.pdc_table.specs.Content.{Content}
 use Rattle.pdc_table.specs.Steps.{after_tick}
-use Rattle.pdc_table.specs.pdc_open_row.Layout.{layout_view}
+use Rattle.pdc_table.specs.pdc_columns.Layout.{layout_view}
 use Rattle.pdc_align.specs.Align.{AlignmentView, State}
 use Rattle.pdc_align.specs.Calls.{row_layout_in}
 use Rattle.pdc_align.proofs.Popped.{popped_tick}

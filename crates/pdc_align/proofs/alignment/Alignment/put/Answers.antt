@@ -1,4 +1,4 @@
-use Rattle.pdc_table.specs.pdc_open_row.Taking.{body_cells_of}
+use Rattle.pdc_table.specs.pdc_columns.Taking.{body_cells_of}
 use Rattle.pdc_align.proofs.Follows.{data_answer, data_follows}
 use Rattle.pdc_align.proofs.alignment.Alignment.put.Goals as goal
 use Rattle.std.proofs.Common.{◌∙◌}

@@ -1,5 +1,5 @@
 use Rattle.pdc_arrival.specs.pdc_block.Block.{words_in}
-use Rattle.pdc_table.specs.pdc_open_row.Parts.{cut_cells}
+use Rattle.pdc_table.specs.pdc_columns.Parts.{cut_cells}
 use Rattle.pdc_align.proofs.Follows.{data_answer, data_follows}
 use Rattle.pdc_align.proofs.alignment.Alignment.put_parts.Goals as goal
 use Rattle.std.proofs.Common.{◌∙◌}

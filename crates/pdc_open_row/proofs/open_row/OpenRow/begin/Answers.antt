@@ -1,6 +1,6 @@
 use Rattle.std.proofs.Common.{◌∙◌, ap, length}
-use Rattle.pdc_open_row.specs.Taking.{any_second}
-use Rattle.pdc_open_row.proofs.OpenRowParts.{none_replicated}
+use Rattle.pdc_columns.specs.Taking.{any_second}
+use Rattle.pdc_columns.proofs.ColumnParts.{none_replicated}
 use Rattle.pdc_open_row.proofs.open_row.OpenRow.begin.Goals as goal
 
 pub invariant_of-self : goal.invariant_of-self

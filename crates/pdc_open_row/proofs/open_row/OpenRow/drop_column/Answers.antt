@@ -1,6 +1,6 @@
 use Rattle.std.proofs.Common.{◌∙◌, ap}
-use Rattle.pdc_open_row.specs.Taking.{any_second}
-use Rattle.pdc_open_row.proofs.OpenRowParts.{none_set}
+use Rattle.pdc_columns.specs.Taking.{any_second}
+use Rattle.pdc_columns.proofs.ColumnParts.{none_set}
 use Rattle.pdc_open_row.proofs.open_row.OpenRow.drop_column.Goals as goal
 
 pub invariant_of-self : goal.invariant_of-self

@@ -1,7 +1,7 @@
 use Rattle.std.proofs.Common.{◌∙◌, ap, length}
-use Rattle.pdc_open_row.specs.Taking.{any_second}
-use Rattle.pdc_open_row.proofs.OpenRowParts.{none_replicated}
+use Rattle.pdc_columns.specs.Taking.{any_second}
+use Rattle.pdc_columns.proofs.ColumnParts.{none_replicated}
 use Rattle.pdc_open_row.proofs.open_row.OpenRow.hand_out.Goals as goal
 
 pub invariant_of-self : goal.invariant_of-self
-invariant_of-self c = λ e. ap any_second c.in-Some.ensures.some ∙ none_replicated (length c.self.inside.columns)
+invariant_of-self c = λ e. ap any_second c.hand_out-quality.ensures.spent ∙ none_replicated (length c.self.inside.columns)

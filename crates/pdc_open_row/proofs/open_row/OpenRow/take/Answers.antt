@@ -1,6 +1,6 @@
 use Rattle.std.proofs.Common.{◌∙◌, ap}
-use Rattle.pdc_open_row.specs.Taking.{any_second}
-use Rattle.pdc_open_row.proofs.OpenRowParts.{seconds_kept}
+use Rattle.pdc_columns.specs.Taking.{any_second}
+use Rattle.pdc_columns.proofs.ColumnParts.{seconds_kept}
 use Rattle.pdc_open_row.proofs.open_row.OpenRow.take.Goals as goal
 
 pub invariant_of-self-else-lane-ne0 : goal.invariant_of-self-else-lane-ne0

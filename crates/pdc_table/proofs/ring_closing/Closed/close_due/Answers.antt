@@ -1,7 +1,7 @@
 use Rattle.std.proofs.Common.{◌+◌, ◌++◌, ◌∙◌, ap, refl, sym, take}
 use Rattle.pdc_open_row.specs.pdc_row.Quality.{greatest}
 use Rattle.pdc_table.specs.Closing.{counter}
-use Rattle.pdc_open_row.specs.Layout.{layout_view}
+use Rattle.pdc_open_row.specs.pdc_columns.Layout.{layout_view}
 use Rattle.pdc_table.specs.OpenInstants.{instants_of}
 use Rattle.pdc_table.specs.RingRows.{rows_in, with_ages}
 use Rattle.pdc_table.specs.Steps.{disagreements_in}

@@ -7,7 +7,7 @@ use Rattle.pdc_table.specs.Content.{HasPlaces, HasSizesOf, IsContent, streams_of
 use Rattle.pdc_table.specs.Ring.{content_of, IsKept, view_of}
 use Rattle.pdc_table.specs.declared.ring_table.RingTable.TheInside.{Inside}
 use Rattle.pdc_table.specs.RingRows.{StandAbove, closed_row, closed_rows, copied, no_layout, row_in, rows_in, with_ages}
-use Rattle.pdc_open_row.specs.Layout.{LayoutView}
+use Rattle.pdc_open_row.specs.pdc_columns.Layout.{LayoutView}
 use Rattle.pdc_table.specs.TableView.{TableView}
 use Rattle.pdc_open_row.specs.Views.{OpenRowView}
 use Rattle.pdc_table.proofs.Keeps.{held_fit}

@@ -2,7 +2,7 @@ use Rattle.std.proofs.Common.{◌≡◌, ◌<◌, ◌∙◌, ap, arith, get_or, 
 use Rattle.std.specs.Option.{option_map}
 use Rattle.std.proofs.lemmas.List.{get_or_default}
 use Rattle.std.proofs.lemmas.Option.{IfSome_then}
-use Rattle.pdc_open_row.specs.Twin.{lowest}
+use Rattle.pdc_open_row.specs.pdc_columns.Twin.{lowest}
 use Rattle.pdc_open_row.specs.Views.{OpenRowView, blank_row}
 use Rattle.pdc_table.specs.Content.{streams_of}
 use Rattle.pdc_table.specs.Placing.{row_at}

@@ -2,7 +2,7 @@ use Rattle.std.proofs.Common.{rules, arith, ◌≡◌, ◌≤◌, ◌+◌, ◌++
 use Rattle.std.proofs.lemmas.List.{length-map}
 use Rattle.pdc_table.specs.Closing.{aged, closing, counter, staying}
 use Rattle.pdc_table.specs.Content.{IsContent, streams_of}
-use Rattle.pdc_open_row.specs.Layout.{layout_view}
+use Rattle.pdc_open_row.specs.pdc_columns.Layout.{layout_view}
 use Rattle.pdc_table.specs.Ring.{content_of}
 use Rattle.pdc_table.specs.RingRows.{closed_row, closed_rows, laid, row_in, rows_in, with_ages}
 use Rattle.pdc_open_row.specs.Row.{row_of}

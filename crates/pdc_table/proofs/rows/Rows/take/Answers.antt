@@ -1,11 +1,11 @@
 use Rattle.std.proofs.Common.{◌≡◌, ◌∙◌, ap, arith, get_or, length, subst, sym}
 use Rattle.std.proofs.Math.Nat.{mod-lt}
 use Rattle.std.proofs.lemmas.List.{get_or_default}
-use Rattle.pdc_open_row.specs.Twin.{IsTwin}
+use Rattle.pdc_open_row.specs.pdc_columns.Twin.{IsTwin}
 use Rattle.pdc_open_row.specs.Views.{OpenRowView, blank_row}
 use Rattle.pdc_table.specs.RingRows.{row_in}
 use Rattle.pdc_table.proofs.RingAges.{twin_met}
-use Rattle.pdc_open_row.proofs.Twins.{twin_blank}
+use Rattle.pdc_open_row.proofs.pdc_columns.Twins.{twin_blank}
 use Rattle.pdc_table.proofs.rows.Rows.take.Goals as goal
 use Rattle.pdc_table.proofs.rows.Rows.take.Goals.{then-instant-here, else-instant-here}
 

@@ -5,9 +5,10 @@ use Rattle.try_script.specs.SortedTable.{content_of}
 use Rattle.pdc_table.specs.Placing.{row_at}
 use Rattle.pdc_table.specs.OpenInstants.{instants_of}
 use Rattle.pdc_table.specs.Steps.{is_near_all}
-use Rattle.pdc_table.specs.pdc_open_row.Taking.{answer_at, cells_in, is_taken}
+use Rattle.pdc_table.specs.pdc_columns.Taking.{cells_in}
+use Rattle.pdc_table.specs.pdc_open_row.Taking.{answer_at, is_taken}
 use Rattle.pdc_table.specs.TableView.{TableView}
-use Rattle.pdc_table.proofs.pdc_open_row.Blank.{columns_exist}
+use Rattle.pdc_table.proofs.pdc_columns.Exist.{columns_exist}
 use Rattle.pdc_table.proofs.Keeps.{has_room, keeps-offered}
 use Rattle.try_script.proofs.sorted_table.SortedTable.offer.Goals as goal
 

@@ -2,7 +2,7 @@ use Rattle.std.proofs.Common.{rules, arith, refl, ◌≡◌, ◌≤◌, ◌+◌,
 use Rattle.std.proofs.lemmas.List.{length-map}
 use Rattle.pdc_table.specs.Closing.{aged, closing}
 use Rattle.pdc_row.specs.RowView.{row_view}
-use Rattle.pdc_table.specs.pdc_open_row.Layout.{layout_view}
+use Rattle.pdc_table.specs.pdc_columns.Layout.{layout_view}
 use Rattle.try_script.specs.SortedTable.{content_of}
 use Rattle.pdc_table.specs.Steps.{closing_of}
 use Rattle.pdc_table.proofs.Keeps.{aged_rise, closed_shapes, closing_few, held_fit, keeps-tick}

@@ -1,6 +1,0 @@
-use Rattle.std.proofs.Common.{◌≡◌, ◌++◌, map, take, drop}
-use Rattle.pdc_open_row.specs.OpenRowParts.{without_lane}
-use Rattle.pdc_open_row.proofs.column.forget_lane.Given as goal
-
-abbrev pub invariant-loop-held : goal.invariant-loop-held
-invariant-loop-held l = l.held ≡ map (without_lane l.lane) (take l.held-index l.initial.held) ++ drop l.held-index l.initial.held

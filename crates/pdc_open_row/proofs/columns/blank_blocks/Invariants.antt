@@ -1,8 +1,0 @@
-use Rattle.std.proofs.Common.{◌-◌, ◌≤◌, length}
-use Rattle.pdc_open_row.proofs.columns.blank_blocks.Given as goal
-
-abbrev pub invariant-loop-blocks : goal.invariant-loop-blocks
-invariant-loop-blocks l = length l.blocks ≤ l.count
-
-abbrev pub decreases-loop-blocks : goal.decreases-loop-blocks
-decreases-loop-blocks l = l.count - length l.blocks

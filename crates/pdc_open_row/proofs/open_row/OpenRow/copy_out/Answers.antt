@@ -1,7 +1,0 @@
-use Rattle.std.proofs.Common.{◌∙◌, ap, length}
-use Rattle.pdc_open_row.specs.Taking.{any_second}
-use Rattle.pdc_open_row.proofs.OpenRowParts.{none_replicated}
-use Rattle.pdc_open_row.proofs.open_row.OpenRow.copy_out.Goals as goal
-
-pub invariant_of-self : goal.invariant_of-self
-invariant_of-self c = λ e. ap any_second c.forget_all.ensures ∙ none_replicated (length c.lay_out_in.new.self)
