@@ -35,7 +35,7 @@ use std::sync::atomic::{AtomicU64, Ordering};
 use std::sync::mpsc::{Receiver, Sender, channel};
 use std::sync::{Mutex, MutexGuard, PoisonError};
 use std::thread;
-use std::time::Instant;
+use std::time::{Duration, Instant};
 
 const PMUS: usize = 16;
 const FIRST_STREAM: u16 = 11;
@@ -45,6 +45,9 @@ const FLOOR: u64 = 57_478_860_000;
 
 /// How many instants a source may be ahead of the last one that was published.
 const AHEAD: u64 = 100;
+
+/// How long a source sleeps that is as far ahead: as a receiver sleeps that waits for a datagram. A hundred instants take longer.
+const NAP: Duration = Duration::from_micros(200);
 
 /// How often a thread that finds the lock held lets another one run, before it waits for it: with more threads than cores that is faster than
 /// to sleep and be woken.
@@ -152,7 +155,7 @@ impl Shared {
         let mut buffer = vec![0; MAX_SIZE];
         for (number, frame) in frames.iter().enumerate() {
             while number as u64 > self.released.0.load(Ordering::Acquire) {
-                thread::yield_now();
+                thread::sleep(NAP);
             }
             let bytes = &mut buffer[..frame.len()];
             bytes.copy_from_slice(frame);

@@ -5,18 +5,24 @@ use crate::frames::FLOOR;
 use crossbeam_utils::CachePadded;
 use pdc_ports::{Next, Numbered, Outcome, Sink, SinkFault, Source, Ticker};
 use pdc_service::Outlet;
+use std::sync::Wait;
 use std::sync::atomic::{AtomicU64, Ordering};
 use std::thread;
+use std::time::Duration;
 
 /// How many instants a source may be ahead of the last one that was published.
 const AHEAD: u64 = 100;
+
+/// How many microseconds a source sleeps that is as far ahead: as a receiver sleeps that waits for a datagram. A hundred instants take longer.
+const NAP: u64 = 200;
 
 /// How often the ticker looks before it gives up.
 const TURNS: u64 = 1_000_000_000;
 
 /// Gives the frames of a PMU, none before it is released.
 #[derive(Drop)]
-pub struct Feed<'a> {
+pub struct Feed<'a, R: Wait> {
+    rt: &'a R,
     frames: &'a [Vec<u8>],
     given: usize,
     /// How many of its frames it has told to be delivered,
@@ -27,14 +33,16 @@ pub struct Feed<'a> {
     released: &'a AtomicU64,
 }
 
-impl<'a> Feed<'a> {
+impl<'a, R: Wait> Feed<'a, R> {
     /// A source that has given no frame yet.
     pub fn new(
+        rt: &'a R,
         frames: &'a [Vec<u8>],
         delivered: &'a AtomicU64,
         released: &'a AtomicU64,
-    ) -> Feed<'a> {
+    ) -> Feed<'a, R> {
         Feed {
+            rt,
             frames,
             given: 0,
             told: 0,
@@ -44,7 +52,7 @@ impl<'a> Feed<'a> {
     }
 }
 
-impl<'a> Source for Feed<'a> {
+impl<'a, R: Wait> Source for Feed<'a, R> {
     ghost use Rattle.std.specs.Prelude.{◌-◌, length};
 
     ghost failures_of = { λ _. 0 };
@@ -61,7 +69,7 @@ impl<'a> Source for Feed<'a> {
             return Next::End;
         };
         if self.given as u64 > self.released.load(Ordering::Acquire) {
-            thread::yield_now();
+            thread::sleep(self.rt, Duration::from_micros(NAP));
             return Next::Idle;
         }
         let len = frame.len();

@@ -33,15 +33,19 @@ fn counters(alloc: Global, count: usize) -> Option<Vec<CachePadded<AtomicU64>>> 
 }
 
 /// A source for each stream.
-fn feeds<'a>(
+fn feeds<'a, R: Wait>(
+    rt: &'a R,
     alloc: Global,
     frames: &'a Frames,
     delivered: &'a [CachePadded<AtomicU64>],
     released: &'a AtomicU64,
-) -> Option<Vec<Feed<'a>>> {
+) -> Option<Vec<Feed<'a, R>>> {
     let mut feeds = Vec::new(alloc);
     for (stream, counter) in frames.streams.iter().zip(delivered) {
-        if feeds.push(Feed::new(stream, counter, released)).is_err() {
+        if feeds
+            .push(Feed::new(rt, stream, counter, released))
+            .is_err()
+        {
             return None;
         }
     }
@@ -57,7 +61,7 @@ pub fn run_side_by_side<R: Threads + Wait + Sync>(
 ) -> Option<Totals> {
     let delivered = counters(alloc, frames.streams.len())?;
     let released = CachePadded::new(AtomicU64::new(0));
-    let sources = feeds(alloc, frames, &delivered, &released)?;
+    let sources = feeds(rt, alloc, frames, &delivered, &released)?;
     if sources.len() != settings.pmus.len() {
         return None;
     }
