@@ -5,6 +5,7 @@ use crate::frames::FLOOR;
 use crossbeam_utils::CachePadded;
 use pdc_ports::{Next, Numbered, Outcome, Sink, SinkFault, Source, Ticker};
 use pdc_service::Outlet;
+use std::rt::Clock;
 use std::sync::Wait;
 use std::sync::atomic::{AtomicU64, Ordering};
 use std::thread;
@@ -21,7 +22,7 @@ const TURNS: u64 = 1_000_000_000;
 
 /// Gives the frames of a PMU, none before it is released.
 #[derive(Drop)]
-pub struct Feed<'a, R: Wait> {
+pub struct Feed<'a, R: Wait + Clock> {
     rt: &'a R,
     frames: &'a [Vec<u8>],
     given: usize,
@@ -33,7 +34,7 @@ pub struct Feed<'a, R: Wait> {
     released: &'a AtomicU64,
 }
 
-impl<'a, R: Wait> Feed<'a, R> {
+impl<'a, R: Wait + Clock> Feed<'a, R> {
     /// A source that has given no frame yet.
     pub fn new(
         rt: &'a R,
@@ -52,7 +53,7 @@ impl<'a, R: Wait> Feed<'a, R> {
     }
 }
 
-impl<'a, R: Wait> Source for Feed<'a, R> {
+impl<'a, R: Wait + Clock> Source for Feed<'a, R> {
     ghost use Rattle.std.specs.Prelude.{◌-◌, length};
 
     ghost failures_of = { λ _. 0 };

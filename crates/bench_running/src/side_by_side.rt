@@ -8,6 +8,7 @@ use pdc_life::Settings;
 use pdc_mark::ModelMark;
 use pdc_service::{Begun, MAX_LIMIT, Plan, Totals, hand_over, run_node};
 use std::alloc::Global;
+use std::rt::Clock;
 use std::sync::Wait;
 use std::sync::atomic::AtomicU64;
 use std::thread::Threads;
@@ -33,7 +34,7 @@ fn counters(alloc: Global, count: usize) -> Option<Vec<CachePadded<AtomicU64>>> 
 }
 
 /// A source for each stream.
-fn feeds<'a, R: Wait>(
+fn feeds<'a, R: Wait + Clock>(
     rt: &'a R,
     alloc: Global,
     frames: &'a Frames,
@@ -53,7 +54,7 @@ fn feeds<'a, R: Wait>(
 }
 
 /// Runs the node over all frames, and answers its totals; none where it ended early.
-pub fn run_side_by_side<R: Threads + Wait + Sync>(
+pub fn run_side_by_side<R: Threads + Wait + Clock + Sync>(
     rt: &R,
     alloc: Global,
     settings: &Settings,
