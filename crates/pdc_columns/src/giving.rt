@@ -1,13 +1,11 @@
 //! What columns give to the row that goes out, and how often their lanes disagree.
 ghost use Rattle.std.specs.Prelude.{◌≡◌, ◌+◌, ◌<◌, ◌≤◌, ◌++◌, drop, length, replicate};
-ghost use Rattle.std.specs.Prelude.{slice_index_or};
 ghost use Rattle.pdc_row.specs.Quality.{quality_of, worst_of};
-ghost use Rattle.pdc_columns.specs.Chosen.{disagreement_at, disagreements_of};
-ghost use Rattle.pdc_columns.specs.ColumnParts.{columns_of, worst_kept};
+ghost use Rattle.pdc_columns.specs.Chosen.{disagreements_of};
+ghost use Rattle.pdc_columns.specs.ColumnParts.{worst_kept};
 ghost use Rattle.pdc_columns.specs.Giving.{blocks_of, qualities_of};
 ghost use Rattle.pdc_columns.specs.Views.{empty_column};
 
-use crate::column::Held;
 use crate::columns::Columns;
 use crate::row_blocks::{give, quality_below};
 use crate::{MAX_COLUMNS, RowLayout, WORST_QUALITY};
@@ -100,65 +98,10 @@ impl Columns {
         if self.are_one() {
             return 0;
         }
-        match self.held.one() {
-            Some(held) => {
-                disagreements_of(held, &self.first.get().blocks, self.second.get(), shapes)
-            }
-            None => self.disagreements_apart(shapes),
-        }
-    }
-
-    /// The same where it is not known that the same is held of each column.
-    fn disagreements_apart(&self, shapes: &[Option<Shape>]) -> u64
-        requires { length shapes.now ≤ MAX_COLUMNS }
-        ensures value { result ≡ disagreements_of shapes.now self.now }
-        ensures most { result ≤ MAX_COLUMNS }
-    {
         let mut count = 0;
         for (place, shape) in shapes.iter().enumerate() {
             count += self.disagreements_at(place, *shape);
         }
         count
-    }
-}
-
-/// The same where this is held of each column.
-fn disagreements_of(
-    held: Held,
-    first: &RowBlocks,
-    second: &RowBlocks,
-    shapes: &[Option<Shape>],
-) -> u64
-    requires few { length shapes.now ≤ MAX_COLUMNS }
-    requires same { length second.now ≡ length first.now }
-    ensures value { result ≡ disagreements_of shapes.now
-        (columns_of (replicate (length first.now) held) first.now second.now) }
-    ensures most { result ≤ MAX_COLUMNS }
-{
-    let mut count = 0;
-    for (place, shape) in shapes.iter().enumerate() {
-        count += disagreements_at(held, first, second, place, *shape);
-    }
-    count
-}
-
-/// How many disagreements the column at this place gives, one or none; past the last column there is nothing.
-#[inline(always)]
-fn disagreements_at(
-    held: Held,
-    first: &RowBlocks,
-    second: &RowBlocks,
-    place: usize,
-    shape: Option<Shape>,
-) -> u64
-    requires { length second.now ≡ length first.now }
-    ensures value { result ≡ disagreement_at shape (slice_index_or
-        (columns_of (replicate (length first.now) held) first.now second.now) place empty_column) }
-    ensures most { result ≤ 1 }
-{
-    if place < first.len() {
-        held.disagreements(first, second, place, shape)
-    } else {
-        0
     }
 }

@@ -76,18 +76,6 @@ impl Lanes {
         if self.is_one { Some(self.one) } else { None }
     }
 
-    /// What is held of each column, where it is not known to be the same.
-    #[inline(always)]
-    pub(crate) fn apart(&self) -> Option<&[Held]>
-        ensures { IfSome result (λ each. each.now ≡ self.now) }
-    {
-        if self.is_one {
-            None
-        } else {
-            Some(self.each.as_slice())
-        }
-    }
-
     /// Makes this what is held of the column at this place.
     #[inline(always)]
     pub(crate) fn set(&mut self, place: usize, held: Held)

@@ -76,8 +76,8 @@ pub fn worst_of_one(quality: u8, first: &RowBlocks) -> u32
     0
 }
 
-/// How many columns from the front on are known to give a present block of lane 0, and the number above the worst quality of these: none where it is
-/// not held apart what each holds.
+/// How many columns from the front on are known to give a present block of lane 0, and the number above the worst quality of these. Nearly always
+/// that is the whole row, and then no block is looked at again.
 #[inline(always)]
 fn front_of_first(held: &Lanes, first: &RowBlocks) -> (usize, u32)
     requires { length first.now ≡ length held.now }
@@ -92,30 +92,9 @@ fn front_of_first(held: &Lanes, first: &RowBlocks) -> (usize, u32)
     ensures most { result.0 ≤ length first.now }
     ensures fits { result.1 ≤ WORST_QUALITY + 1 }
 {
-    match held.apart() {
-        Some(each) => front_of_each(each, first),
-        None => (0, 0),
-    }
-}
-
-/// The same of a list of what is held of each column. Nearly always that is the whole row, and then no block is looked at again.
-#[inline(always)]
-fn front_of_each(held: &[Held], first: &RowBlocks) -> (usize, u32)
-    requires { length first.now ≡ length held.now }
-    ensures blocks { (second : List BlockView) → length second ≡ length held.now →
-        take result.0 (blocks_of (map Some (shapes_of first.now))
-        (columns_of held.now first.now second)) ++ drop result.0 first.now ≡ first.now }
-    ensures quality { (second : List BlockView) → length second ≡ length held.now →
-        worst_of (worst_kept result.1) (qualities_of (drop result.0
-        (map Some (shapes_of first.now))) (drop result.0 (columns_of held.now first.now second)))
-        ≡ quality_of (qualities_of (map Some (shapes_of first.now))
-        (columns_of held.now first.now second)) }
-    ensures most { result.0 ≤ length first.now }
-    ensures fits { result.1 ≤ WORST_QUALITY + 1 }
-{
     let mut above = 0;
     for place in 0..first.len() {
-        let here = held_at(held, place);
+        let here = held.at(place);
         if !here.first {
             return (place, above);
         }
@@ -125,15 +104,6 @@ fn front_of_each(held: &[Held], first: &RowBlocks) -> (usize, u32)
         above = worse(above, here.first_quality % 16);
     }
     (first.len(), above)
-}
-
-/// What is held of the column at this place.
-#[inline(always)]
-fn held_at(held: &[Held], place: usize) -> Held
-    requires { place < length held.now }
-    ensures { result ≡ slice_index_or held.now place nothing }
-{
-    held[place]
 }
 
 /// Writes what the columns give over the blocks of lane 0, each in its shape, where lane 0 does not give it. It answers the number above the

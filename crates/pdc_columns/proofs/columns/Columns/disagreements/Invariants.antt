@@ -1,6 +1,6 @@
 use Rattle.std.proofs.Common.{◌≡◌, ◌+◌, ◌≤◌, drop}
 use Rattle.pdc_columns.specs.Chosen.{disagreements_of}
-use Rattle.pdc_columns.proofs.columns.Columns.disagreements_apart.Given as goal
+use Rattle.pdc_columns.proofs.columns.Columns.disagreements.Given as goal
 
 abbrev pub invariant-loop-place : goal.invariant-loop-place
 invariant-loop-place l = record {
