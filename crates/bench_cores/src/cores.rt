@@ -8,7 +8,7 @@ use pdc_life::MAX_PMUS;
 use pdc_mark::ModelMark;
 use pdc_merge::Merger;
 use pdc_node::Node;
-use pdc_publisher::{Published, Publisher, spare_frame};
+use pdc_publisher::Publisher;
 use pdc_row::Output;
 use pdc_settings::{MergerSettings, NodeSettings};
 use pdc_table::{DueRow, HeldBox, RingTable, spare_row};
@@ -36,10 +36,8 @@ struct Concentrator<C: Core + Drop> {
     publisher: Publisher<ModelMark>,
     /// What a datagram says that is no data is kept here.
     kept: KeptArrival,
-    /// Each row is popped into this one,
-    row: HeldBox<DueRow>,
-    /// and published into this frame.
-    frame: Published,
+    /// Each row is popped into this one, and published where it is. There is none where a publish failed.
+    row: Option<HeldBox<DueRow>>,
     /// What counts as now at the next tick.
     now: u64,
     mixed: u64,
@@ -67,8 +65,7 @@ impl<C: Core + Drop> Concentrator<C> {
             output,
             publisher: Publisher::new(ModelMark::new(1, floor), output, 0),
             kept: KeptArrival::blank(),
-            row: spare_row(alloc)?,
-            frame: spare_frame(&output),
+            row: Some(spare_row(alloc)?),
             now: floor,
             mixed: 0,
         })
@@ -109,16 +106,26 @@ impl<C: Core + Drop> Concentrator<C> {
 
     /// Publishes the next row, and mixes the check word of its frame.
     fn publish(&mut self) {
-        if !self.core.pop_into(&mut self.row) {
+        let Some(row) = self.row.take() else {
+            return;
+        };
+        let mut row = row;
+        if !self.core.pop_into(&mut row) {
+            self.row = Some(row);
             return;
         }
         let end = SECONDS * u64::from(self.output.rate);
-        let row = self.row.get();
-        if row.instant <= self.publisher.last() || row.instant >= end {
+        let instant = row.get().instant;
+        if instant <= self.publisher.last() || instant >= end {
+            self.row = Some(row);
             return;
         }
-        if self.publisher.publish_into(row, &mut self.frame).is_ok() {
-            self.mixed = with_end(self.mixed, self.frame.bytes.as_slice());
+        if let Ok(published) = self.publisher.publish_row(row) {
+            let mut published = published;
+            published.show(&mut self.mixed, |bytes, mixed| {
+                *mixed = with_end(*mixed, bytes);
+            });
+            self.row = Some(published.into_row());
         }
     }
 

@@ -1,5 +1,5 @@
 -- How the mark stands from call to call, and rows as they were popped.
-use Rattle.std.proofs.Common.{arith, ◌≡◌, ℕ, ◌≤◌, true, inl, inr, Bool, Option, Result, Ok, Err, IsTrue, IfOk, OnErr, sym, ap, subst}
+use Rattle.std.proofs.Common.{arith, ◌≡◌, ℕ, ◌≤◌, true, inl, inr, Result, Ok, Err, IsTrue, OnErr, sym, ap, subst}
 use Rattle.pdc_hub.specs.declared.fault.HubFault.{HubFault}
 use Rattle.pdc_hub.specs.declared.fault.HubFault.TheVariants.{Device}
 use Rattle.pdc_aligner.specs.Device.{HasDevice, HasFailedSince, IsDown, Standing}

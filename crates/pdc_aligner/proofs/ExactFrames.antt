@@ -1,8 +1,8 @@
 -- The frames of a life, one by one.
-use Rattle.std.proofs.Common.{◌≡◌, ◌⊎◌, inl, inr, ℕ, Bool, true, false, List, [], ◌∷◌, ◌++◌, map, None, Some, if◌then◌else◌, refl, sym, ap, ◌∙◌, subst, append_assoc, append-nil}
+use Rattle.std.proofs.Common.{◌≡◌, inl, inr, ℕ, Bool, true, false, List, [], ◌∷◌, ◌++◌, map, None, Some, if◌then◌else◌, refl, sym, ap, ◌∙◌, subst, append_assoc, append-nil}
 use Rattle.std.specs.List.{AllByRecursion}
 use Rattle.pdc_hub.proofs.Receiving.{among_last, among_more}
-use Rattle.pdc_life.specs.CoreKind.{CoreKind, IsLifeOf, output_under}
+use Rattle.pdc_life.specs.CoreKind.{output_under}
 use Rattle.pdc_life.specs.Gave.{IsExactRow, RowsAreExact}
 use Rattle.pdc_life.specs.Given.{Given}
 use Rattle.pdc_life.specs.Laws.{LivesAreRuns, RowsComeOutOnce, RowsRise}

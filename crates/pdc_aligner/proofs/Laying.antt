@@ -1,5 +1,5 @@
 -- What is put is what the life puts, step by step.
-use Rattle.std.proofs.Common.{arith, ◌≡◌, ◌≤◌, ◌+◌, ◌%◌, ◌==◌, ℕ, zero, suc, Bool, true, false, ◌&&◌, ◌||◌, List, [], ◌∷◌, ◌++◌, length, slice_index, nat_lt, Result, Ok, Err, IfOk, OnErr, OnOk, Option, None, Some, is_some, if◌then◌else◌, refl, sym, ap, ◌∙◌, subst, append_assoc, append-nil}
+use Rattle.std.proofs.Common.{arith, ◌≡◌, ◌≤◌, ◌+◌, ◌%◌, ◌==◌, ℕ, Bool, true, false, ◌&&◌, ◌||◌, List, [], ◌∷◌, ◌++◌, length, slice_index, nat_lt, Result, Ok, Err, OnOk, Option, None, Some, is_some, if◌then◌else◌, refl, sym, ap, ap₂, ◌∙◌, subst, append-nil}
 use Rattle.std.proofs.Math.Logic.{∥∥₁_elim, ∥∥₁_map, ∥∥₁_prop}
 use mathlib.Core.List.{IsPrefix}
 use Rattle.std.proofs.Math.Nat.{mod-add-mod}
@@ -12,27 +12,26 @@ use Rattle.pdc_align.specs.declared.ticked.Ticked.{Ticked}
 use Rattle.pdc_life.specs.Answer.{ReadStep, Rules, ToArrive, ToPop, ToTick, answered, life_from, pop_answer, tick_answer, waiting_counts}
 use Rattle.pdc_life.specs.Arrival.{Arrival}
 use Rattle.pdc_life.specs.Given.{Given}
-use Rattle.pdc_life.specs.Life.{Answer, Arrive, Entry, Pop, Tick, changes, is_adoption, now_of}
+use Rattle.pdc_life.specs.Life.{Answer, Arrive, Entry, Pop, Tick, changes, now_of}
 use Rattle.pdc_life.specs.Published.{layout_wire}
 use Rattle.pdc_log.specs.Log.{HasLooked, HasTurned, InTheLife, life_of, turned_in}
 use Rattle.pdc_log.proofs.Fronts.{prefix_of, prefix_trans}
 use Rattle.pdc_hub.specs.Pops.{IsPop}
 use Rattle.pdc_hub.proofs.Replays.{here, life_append, life_of-snoc, turned_append}
+use Rattle.pdc_publisher.specs.PublishedRow.{frame_in}
 use Rattle.pdc_row.specs.Layout.{wire_of}
 use Rattle.pdc_row.specs.RowView.{RowView, row_view}
 use Rattle.pdc_row.specs.declared.due_row.DueRow.{DueRow}
 use Rattle.pdc_row.specs.declared.output.Output.{Output}
 use Rattle.pdc_pipe.specs.Sequence.{bytes_of}
-use Rattle.pdc_pipe.specs.pdc_memory.Held.{held_value}
-use Rattle.pdc_pipe.specs.declared.message.LayoutFrame.{LayoutFrame}
 use Rattle.pdc_pipe.specs.declared.message.Message.{Message}
 use Rattle.pdc_pipe.specs.declared.message.Message.TheVariants.{Data, Layout, End}
 use Rattle.pdc_aligner.specs.Sequence.{HasPutRow}
-use Rattle.pdc_aligner.specs.Laid.{AreDone, HasPutLayout, IsAsked, IsAt, IsBefore, IsDone, IsLaid, IsLaidBut, IsLaidUpToLayout, are_done, frames_of, is_done, has_adopted, is_told, last_adopted, layout_in, second_at, ticks_in}
+use Rattle.pdc_aligner.specs.Laid.{AreDone, HasPutLayout, IsAsked, IsAt, IsBefore, IsDone, IsLaid, IsLaidBut, IsLaidUpToLayout, are_done, frames_of, is_done, has_adopted, is_told, layout_in, second_at, ticks_in}
 
 bytes_append : (xs ys : List Message) → bytes_of (xs ++ ys) ≡ bytes_of xs ++ bytes_of ys
 bytes_append [] ys = refl
-bytes_append (Data p ∷ ms) ys = ap (λ l. p.value.bytes.items ∷ l) (bytes_append ms ys)
+bytes_append (Data p ∷ ms) ys = ap (λ l. frame_in p ∷ l) (bytes_append ms ys)
 bytes_append (Layout b ∷ ms) ys = ap (λ l. b.bytes.items ∷ l) (bytes_append ms ys)
 bytes_append (End ∷ ms) ys = bytes_append ms ys
 
@@ -119,7 +118,7 @@ pop_laid rules named output rate every number row before after put more t p h =
     let at : frames_of g output rate every (Pop (pop_answer E) ∷ E) ≡ frames_of g output rate every E ++ wire_of output (row_view row) ∷ [] =
     ap (λ (r : Option RowView). frames_of g output rate every (Pop r ∷ E)) (sym given) in
     let bytes : bytes_of more ≡ bytes_of put ++ wire_of output (row_view row) ∷ [] =
-    ap bytes_of p.behind ∙ (bytes_append put (Data (held_value p.frame) ∷ []) ∙ ap (λ (b : List ℕ). bytes_of put ++ b ∷ []) p.framed.wire) in (
+    ap bytes_of p.behind ∙ (bytes_append put (Data p.frame ∷ []) ∙ ap (λ (b : List ℕ). bytes_of put ++ b ∷ []) (ap₂ wire_of p.said p.itself)) in (
       g,
       x.1,
       ap (λ (l : List ReadStep). frames_of g output rate every (life_of rules g l)) t.added.added ∙ (ap (frames_of g output rate every) (life_of-snoc rules g m ToPop) ∙

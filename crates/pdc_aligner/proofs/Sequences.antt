@@ -1,17 +1,19 @@
 -- The instants of what is put.
-use Rattle.std.proofs.Common.{arith, ◌<◌, ◌≤◌, ◌+◌, ◌≡◌, ℕ, List, [], ◌∷◌, ◌++◌, Result, Ok, Err, length, sym, refl, ap, ◌∙◌, subst, append-nil}
+use Rattle.std.proofs.Common.{arith, ◌<◌, ◌≤◌, ◌+◌, ◌≡◌, ℕ, List, [], ◌∷◌, ◌++◌, Result, Ok, Err, OnErr, OnOk, length, sym, refl, ap, ◌∙◌, subst, append-nil}
 use Rattle.std.proofs.lemmas.List.{length-append}
-use Rattle.pdc_pipe.specs.pdc_memory.Held.{HeldValue}
 use Rattle.pdc_pipe.specs.declared.message.Message.{Message}
 use Rattle.pdc_pipe.specs.declared.message.Message.TheVariants.{Data, Layout, End}
 use Rattle.pdc_pipe.specs.declared.message.LayoutFrame.{LayoutFrame}
-use Rattle.pdc_publisher.specs.declared.published.Published.{Published}
+use Rattle.pdc_publisher.specs.PublishedRow.{row_of}
+use Rattle.pdc_publisher.specs.declared.published_row.PublishedRow.{PublishedRow}
 use Rattle.pdc_hub.specs.declared.fault.HubFault.{HubFault}
-use Rattle.pdc_aligner.specs.Sequence.{HasPutAll, Rises, instants_of}
+use Rattle.pdc_row.specs.RowView.{RowView}
+use Rattle.pdc_row.specs.declared.output.Output.{Output}
+use Rattle.pdc_aligner.specs.Sequence.{HasPutAll, HasPutRow, Rises, RisesOn, instants_of}
 
 pub instants_of-append : (xs ys : List Message) → instants_of (xs ++ ys) ≡ instants_of xs ++ instants_of ys
 instants_of-append [] ys = refl
-instants_of-append (Data p ∷ ms) ys = ap (λ l. p.value.instant ∷ l) (instants_of-append ms ys)
+instants_of-append (Data p ∷ ms) ys = ap (λ l. (row_of p).instant ∷ l) (instants_of-append ms ys)
 instants_of-append (Layout b ∷ ms) ys = instants_of-append ms ys
 instants_of-append (End ∷ ms) ys = instants_of-append ms ys
 
@@ -23,7 +25,7 @@ pub rises_on : (low : ℕ) (ns : List ℕ) (high n : ℕ) → Rises low ns high 
 rises_on low [] high n r l = omega (arith, r, l)
 rises_on low (m ∷ ms) high n r l = (r.0, rises_on m ms high n r.1 l)
 
-pub put_data : (put after : List Message) (p : HeldValue Published) → after ≡ put ++ Data p ∷ [] → instants_of after ≡ instants_of put ++ p.value.instant ∷ []
+pub put_data : (put after : List Message) (p : PublishedRow) → after ≡ put ++ Data p ∷ [] → instants_of after ≡ instants_of put ++ (row_of p).instant ∷ []
 put_data put after p e = ap instants_of e ∙ instants_of-append put (Data p ∷ [])
 
 pub put_layout : (put after : List Message) (b : LayoutFrame) → after ≡ put ++ Layout b ∷ [] → instants_of after ≡ instants_of put
@@ -40,8 +42,8 @@ length_more : (ns : List ℕ) (n : ℕ) → length (ns ++ n ∷ []) ≡ length n
 length_more ns n = length-append ns (n ∷ [])
 
 -- a data frame that was put is one more
-pub one_more : (put after : List Message) (p : HeldValue Published) → after ≡ put ++ Data p ∷ [] → length (instants_of after) ≡ length (instants_of put) + 1
-one_more put after p e = ap length (put_data put after p e) ∙ length_more (instants_of put) p.value.instant
+pub one_more : (put after : List Message) (p : PublishedRow) → after ≡ put ++ Data p ∷ [] → length (instants_of after) ≡ length (instants_of put) + 1
+one_more put after p e = ap length (put_data put after p e) ∙ length_more (instants_of put) (row_of p).instant
 
 -- as many frames as rows
 pub put_all : {A : Type 0} (first popped : ℕ) (before put : List Message) (x : A) → popped + length (instants_of before) ≡ first + length (instants_of put) → HasPutAll first popped before put (Ok x)
@@ -65,3 +67,12 @@ put_failed first popped before middle put r fault h e = record { lost = h.lost; 
 -- from nothing on, where as many were put before
 pub put_since : {A B : Type 0} (first middle popped : ℕ) (before put : List Message) (r : Result A HubFault) (fault : HubFault) → middle ≡ first + length (instants_of before) → HasPutAll middle popped before put r → HasPutAll {A = B} first popped [] put (Err fault)
 put_since first middle popped before put r fault e h = record { lost = h.lost; all = omega (arith, h.all, e); one_at_most = h.one_at_most; whole = tt }
+
+-- a row that was put, or was not
+pub rises_either : (r : Result (Unit {0}) HubFault) (output : Output) (row : RowView) (before put : List Message) (first last : ℕ) → OnOk r (HasPutRow output row before put) → OnErr r (put ≡ before) → first < row.instant → last ≡ row.instant
+    → RisesOn before first put last
+rises_either (Ok x) output row before put first last h none lt e = λ low r.
+    let at : (row_of h.frame).instant ≡ row.instant = ap (λ (v : RowView). v.instant) h.itself in
+    subst (λ (ns : List ℕ). Rises low ns last) (sym (put_data before put h.frame h.behind)) (rises_put low (instants_of before) first (row_of h.frame).instant last r (omega (arith, lt, at)) (omega (arith, e, at)))
+rises_either (Err fault) output row before put first last h none lt e = λ low r.
+    subst (λ (ms : List Message). Rises low (instants_of ms) last) (sym none) (rises_on low (instants_of before) first last r (omega (arith, lt, e)))

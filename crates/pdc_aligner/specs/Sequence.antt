@@ -2,17 +2,16 @@
 use Rattle.std.specs.Prelude.{◌≡◌, ℕ, ◌+◌, ◌<◌, ◌≤◌, List, [], ◌∷◌, ◌++◌, length, OnOk, Result}
 use Rattle.pdc_hub.specs.declared.fault.HubFault.{HubFault}
 use Rattle.pdc_row.specs.declared.output.Output.{Output}
-use Rattle.pdc_publisher.specs.Published.{IsRowFrame}
-use Rattle.pdc_publisher.specs.declared.published.Published.{Published}
+use Rattle.pdc_publisher.specs.PublishedRow.{row_of}
+use Rattle.pdc_publisher.specs.declared.published_row.PublishedRow.{PublishedRow}
 use Rattle.pdc_row.specs.RowView.{RowView}
-use Rattle.pdc_pipe.specs.pdc_memory.Held.{held_value}
 use Rattle.pdc_pipe.specs.declared.message.Message.{Message}
 use Rattle.pdc_pipe.specs.declared.message.Message.TheVariants.{Data, Layout, End}
 
 -- the instants of the data frames, in order
 abbrev pub instants_of : List Message → List ℕ
 instants_of [] = []
-instants_of (Data frame ∷ ms) = frame.value.instant ∷ instants_of ms
+instants_of (Data row ∷ ms) = (row_of row).instant ∷ instants_of ms
 instants_of (Layout frame ∷ ms) = instants_of ms
 instants_of (End ∷ ms) = instants_of ms
 
@@ -33,8 +32,9 @@ pub record HasPutAll {A : Type 0} (first popped : ℕ) (before put : List Messag
   pub one_at_most : lost ≤ 1
   pub whole : OnOk result (lost ≡ 0)
 
--- The data frame of this row was put behind what was there.
+-- This row was put behind what was there, published with this output: what goes out is its data frame.
 pub record HasPutRow (output : Output) (row : RowView) (before put : List Message) : Type 0 where
-  pub frame : Published
-  pub framed : IsRowFrame frame.instant frame.start frame.change frame.bytes.items output row
-  pub behind : put ≡ before ++ Data (held_value frame) ∷ []
+  pub frame : PublishedRow
+  pub said : frame.output ≡ output
+  pub itself : row_of frame ≡ row
+  pub behind : put ≡ before ++ Data frame ∷ []

@@ -1,5 +1,5 @@
 //! What is due is published, and put on the channel.
-ghost use Rattle.std.specs.Prelude.{◌≡◌, ◌<◌, ◌*◌, IfErr, OnErr, OnOk, false, true};
+ghost use Rattle.std.specs.Prelude.{◌≡◌, ◌<◌, ◌*◌, Err, IfErr, OnErr, OnOk, false, true};
 ghost use Rattle.pdc_aligner.specs.Aligning.{KeepsAsked, KeepsAt, LaysBut, LaysUpToLayout};
 ghost use Rattle.pdc_aligner.specs.Aligning.{MayPublish, PutsAll, PutsRising};
 ghost use Rattle.pdc_aligner.specs.Device.{IsOfAligner};
@@ -14,6 +14,7 @@ ghost use Rattle.pdc_hub.specs.Pops.{HasAllTop, HasAllTurns, HasPoppedNone, HasP
 ghost use Rattle.pdc_hub.specs.Pops.{HasSameShares};
 ghost use Rattle.pdc_log.specs.Log.{ticks_of};
 ghost use Rattle.pdc_pipe.specs.Writing.{GoesOn, IsOpen, put_by};
+ghost use Rattle.pdc_publisher.specs.PublishedRow.{row_of};
 ghost use Rattle.pdc_publisher.specs.Publisher.{last_in, output_in};
 ghost use Rattle.pdc_row.specs.RowView.{row_view};
 
@@ -21,64 +22,93 @@ use crate::aligner::Aligner;
 use pdc_core::Core;
 use pdc_hub::{Hub, HubFault, Naming, Pops};
 use pdc_mark::Mark;
-use pdc_pipe::{Message, Writer, put};
+use pdc_pipe::{HeldBox, Message, PublishedRow, Writer, put};
 use pdc_ports::{Did, Numbered, Ticker};
 use pdc_publisher::Publisher;
 use pdc_row::DueRow;
+use std::mem::replace;
 use std::sync::Wait;
 
-/// Publishes a row that was popped by this step, and puts its frame on the channel: it is written where the sender reads it, over one that was
-/// sent. The ticker is told of it.
+/// Puts a row that was popped by this step and published on the channel, where its data frame goes out from. The ticker is told of it.
+fn put_row<K: Ticker, R: Wait>(
+    rt: &R,
+    ticker: &mut K,
+    step: u64,
+    row: PublishedRow,
+    writer: &mut Writer,
+) -> Result<(), HubFault>
+    requires { IsOpen writer.old }
+    ensures on { GoesOn writer.old writer.new }
+    // Where it is Ok, it was put, and else nothing was.
+    ensures frame { OnOk result (HasPutRow row.output (row_of row)
+        (put_by writer.old) (put_by writer.new)) }
+    ensures none { OnErr result (put_by writer.new ≡ put_by writer.old) }
+    ensures causes { IfErr result IsOfAligner }
+    ensures stuck { OnErr result (result ≡ Err HubFault.Stuck) }
+    ensures gave { GivesNone K.gave ticker.old ticker.new }
+{
+    let mut row = row;
+    let instant = row.instant();
+    row.show(ticker, |frame, ticker| {
+        ticker.note(
+            step,
+            &Did::Popped {
+                instant,
+                frame: Some(frame),
+            },
+        )
+    });
+    if !put(rt, writer, Message::Data(row)) {
+        return Err(HubFault::Stuck);
+    }
+    Ok(())
+}
+
+/// Publishes a row that was popped by this step, and puts it on the channel. Another one, that was sent, takes its place. The ticker is told of
+/// it.
 fn publish_one<M: Mark, K: Ticker, R: Wait>(
     rt: &R,
     publisher: &mut Publisher<M>,
     ticker: &mut K,
     step: u64,
-    row: &DueRow,
+    row: &mut HeldBox<DueRow>,
     writer: &mut Writer,
 ) -> Result<(), HubFault>
-    requires above { last_in publisher.old < row.now.instant }
-    requires tagged { row.now.instant < SECONDS * (output_in publisher.old).rate }
+    requires above { last_in publisher.old < row.old.value.instant }
+    requires tagged { row.old.value.instant < SECONDS * (output_in publisher.old).rate }
     requires open { IsOpen writer.old }
     ensures on { GoesOn writer.old writer.new }
     ensures rising { RisesOn (put_by writer.old) (last_in publisher.old) (put_by writer.new)
         (last_in publisher.new) }
-    // Where it is Ok, its frame was put, and else none was.
-    ensures frame { OnOk result (HasPutRow (output_in publisher.old) (row_view row.now)
+    // Where it is Ok, it was put, and else nothing was.
+    ensures frame { OnOk result (HasPutRow (output_in publisher.old) (row_view row.old.value)
         (put_by writer.old) (put_by writer.new)) }
     ensures none { OnErr result (put_by writer.new ≡ put_by writer.old) }
-    ensures out { OnOk result (last_in publisher.new ≡ row.now.instant) }
+    ensures out { OnOk result (last_in publisher.new ≡ row.old.value.instant) }
     ensures causes { IfErr result IsOfAligner }
     ensures device { HasDeviceOf publisher.old publisher.new result }
     ensures counts { counts_in publisher.new ≡ counts_in publisher.old }
     ensures kept { KeepsOutput publisher.old publisher.new }
     ensures gave { GivesNone K.gave ticker.old ticker.new }
 {
-    let instant = row.instant;
-    let Some(mut frame) = writer.spares.take(rt) else {
+    let instant = row.get().instant;
+    let Some(spare) = writer.spares.take(rt) else {
         return Err(HubFault::Stuck);
     };
-    if publisher.publish_into(row, frame.get_mut()).is_err() {
-        ticker.note(
-            step,
-            &Did::Popped {
-                instant,
-                frame: None,
-            },
-        );
-        return Err(HubFault::Device);
+    let popped = replace(row, spare);
+    match publisher.publish_row(popped) {
+        Ok(published) => put_row(rt, ticker, step, published, writer),
+        Err(_) => {
+            ticker.note(
+                step,
+                &Did::Popped {
+                    instant,
+                    frame: None,
+                },
+            );
+            Err(HubFault::Device)
+        }
     }
-    ticker.note(
-        step,
-        &Did::Popped {
-            instant,
-            frame: Some(frame.get().bytes.as_slice()),
-        },
-    );
-    if !put(rt, writer, Message::Data(frame)) {
-        return Err(HubFault::Stuck);
-    }
-    Ok(())
 }
 
 /// Pops the lowest row that closed and was not popped. It lies above all that were popped, and can be tagged at the publisher's rate.
@@ -145,7 +175,7 @@ pub fn publish_due<C: Core + Drop, N: Naming<C::Settings>, M: Mark, K: Ticker, R
             ticker.note(step, &Did::FoundNone);
             return Ok(step);
         }
-        if let Err(fault) = publish_one(rt, publisher, ticker, step, pops.row.get(), writer) {
+        if let Err(fault) = publish_one(rt, publisher, ticker, step, &mut pops.row, writer) {
             return Err(fault);
         }
     }

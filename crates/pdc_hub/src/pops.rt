@@ -6,7 +6,7 @@ ghost use Rattle.pdc_memory.specs.Asking.{WasRefused};
 use crate::ledgers::{Ledgers, TopIn, TurnsIn};
 use pdc_log::Front;
 use pdc_memory::HeldBox;
-use pdc_row::{DueRow, RowBlocks};
+use pdc_row::DueRow;
 use std::alloc::{AllocError, Global};
 use std::marker::PhantomData;
 use std::sync::ledger::Share;
@@ -71,12 +71,5 @@ impl<N: Ledgers, M> Pops<N, M> {
 pub(crate) fn spare_row(alloc: Global) -> Result<HeldBox<DueRow>, AllocError>
     ensures { OnErr result (WasRefused 1) }
 {
-    let row = DueRow {
-        instant: 0,
-        start: 0,
-        change: 0,
-        quality: 15,
-        blocks: RowBlocks::new(),
-    };
-    HeldBox::new(alloc, row)
+    HeldBox::new(alloc, DueRow::blank())
 }

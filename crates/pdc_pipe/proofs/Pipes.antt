@@ -4,9 +4,9 @@ use mathlib.Core.Option.{some, some-ne-none}
 use lib.ListN.{get_elem?}
 use Rattle.crossbeam_channel.specs.Fifo.{Pushes, Pops, Forks, Merges, Learns}
 use Rattle.atomic_table.proofs.Lists.{at_set, at_snoc}
-use Rattle.pdc_memory.specs.Held.{HeldValue}
 use Rattle.pdc_pipe.specs.declared.message.Message.{Message}
-use Rattle.pdc_publisher.specs.declared.published.Published.{Published}
+use Rattle.pdc_publisher.specs.PublishedRow.{frame_in}
+use Rattle.pdc_publisher.specs.declared.published_row.PublishedRow.{PublishedRow}
 use Rattle.pdc_pipe.specs.declared.message.LayoutFrame.{LayoutFrame}
 use Rattle.pdc_pipe.specs.declared.message.Message.TheVariants.{Data, Layout, End}
 use Rattle.pdc_pipe.specs.declared.pipe.Log.{Log}
@@ -123,7 +123,7 @@ totals port v a b items views h at = let mine = h.7 port v at in let p = mine.0 
 
 pub bytes_of-append : (xs ys : List Message) → bytes_of (xs ++ ys) ≡ bytes_of xs ++ bytes_of ys
 bytes_of-append [] ys = refl
-bytes_of-append (Data p ∷ ms) ys = ap (λ l. p.value.bytes.items ∷ l) (bytes_of-append ms ys)
+bytes_of-append (Data p ∷ ms) ys = ap (λ l. frame_in p ∷ l) (bytes_of-append ms ys)
 bytes_of-append (Layout b ∷ ms) ys = ap (λ l. b.bytes.items ∷ l) (bytes_of-append ms ys)
 bytes_of-append (End ∷ ms) ys = bytes_of-append ms ys
 
@@ -131,7 +131,7 @@ bytes_of-append (End ∷ ms) ys = bytes_of-append ms ys
 pub put_is_given : (put taken items : List Message) (given rest : List (List ℕ)) → put ≡ taken ++ items → bytes_of taken ≡ given ++ rest → bytes_of put ≡ given ++ (rest ++ bytes_of items)
 put_is_given put taken items given rest e t = ap bytes_of e ∙ (bytes_of-append taken items ∙ (ap (λ l. l ++ bytes_of items) t ∙ append_assoc given rest (bytes_of items)))
 
-pub took_data : (taken after : List Message) (p : HeldValue Published) → after ≡ taken ++ Data p ∷ [] → bytes_of after ≡ bytes_of taken ++ p.value.bytes.items ∷ []
+pub took_data : (taken after : List Message) (p : PublishedRow) → after ≡ taken ++ Data p ∷ [] → bytes_of after ≡ bytes_of taken ++ frame_in p ∷ []
 took_data taken after p e = ap bytes_of e ∙ bytes_of-append taken (Data p ∷ [])
 
 pub took_layout : (taken after : List Message) (b : LayoutFrame) → after ≡ taken ++ Layout b ∷ [] → bytes_of after ≡ bytes_of taken ++ b.bytes.items ∷ []

@@ -1,12 +1,13 @@
 -- The messages of the channel, as bytes, and their end mark.
 use Rattle.std.specs.Prelude.{◌≡◌, ℕ, Bool, true, false, List, [], ◌∷◌, ◌++◌}
+use Rattle.pdc_publisher.specs.PublishedRow.{frame_in}
 use Rattle.pdc_pipe.specs.declared.message.Message.{Message}
 use Rattle.pdc_pipe.specs.declared.message.Message.TheVariants.{Data, Layout, End}
 
 -- the bytes of the frames, in order
 abbrev pub bytes_of : List Message → List (List ℕ)
 bytes_of [] = []
-bytes_of (Data frame ∷ ms) = frame.value.bytes.items ∷ bytes_of ms
+bytes_of (Data row ∷ ms) = frame_in row ∷ bytes_of ms
 bytes_of (Layout frame ∷ ms) = frame.bytes.items ∷ bytes_of ms
 bytes_of (End ∷ ms) = bytes_of ms
 

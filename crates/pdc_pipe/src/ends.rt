@@ -28,11 +28,11 @@ pub struct Ends {
     pub from: Receiver,
     /// By which the sender takes.
     pub reader: Pass<Message, Log>,
-    /// Where the sender gives frames back.
+    /// Where the sender gives rows back.
     pub back: Returns,
 }
 
-/// A channel with nothing in it, and none of the frames that go round.
+/// A channel with nothing in it, and none of the rows that go round.
 ///
 /// # Errors
 ///

@@ -1,9 +1,7 @@
 //! What goes through the channel.
 ghost use Rattle.pdc_pipe.specs.Layout.{IsOfSomeLayout};
 
-use pdc_memory::HeldBox;
-use pdc_publisher::Published;
-use std::alloc::Global;
+use pdc_publisher::PublishedRow;
 
 /// The frame of a layout.
 #[derive(Drop)]
@@ -13,11 +11,11 @@ pub struct LayoutFrame {
     pub ghost of_some_layout: { IsOfSomeLayout bytes.items },
 }
 
-/// A data frame that was published, a layout frame, or the end mark.
+/// A row that was published, a layout frame, or the end mark.
 #[derive(Drop)]
 pub enum Message {
-    /// A data frame. It goes as it was written, in memory that comes back.
-    Data(HeldBox<Published>),
+    /// A row, which is its data frame where it is. Its memory comes back.
+    Data(PublishedRow),
     /// A layout frame.
     Layout(LayoutFrame),
     /// Nothing comes after it.

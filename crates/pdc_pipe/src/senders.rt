@@ -48,9 +48,10 @@ fn hand_on<K: Outlet, R: Wait>(
 {
     for _ in rt.forever() {
         match take_next(rt, receiver, pass) {
-            Some(Message::Data(frame)) => {
-                let sent = sink.send_data(frame.get());
-                back.give(rt, frame);
+            Some(Message::Data(row)) => {
+                let mut row = row;
+                let sent = sink.send_data(&mut row);
+                back.give(rt, row.into_row());
                 if sent.is_err() {
                     return Ended::SinkFault;
                 }
@@ -67,7 +68,7 @@ fn hand_on<K: Outlet, R: Wait>(
     unreachable!()
 }
 
-/// Takes up to the end mark, and hands nothing on. The memory of each frame is given back.
+/// Takes up to the end mark, and hands nothing on. The memory of each row is given back.
 fn drain<R: Wait>(rt: &R, back: &Returns, receiver: &Receiver, pass: &mut Pass<Message, Log>)
     requires seat { IsSeatAt (receives_on receiver.now) pass.old
         × (view pass.old ≡ log false true false [] (view pass.old).taken) }
@@ -77,7 +78,7 @@ fn drain<R: Wait>(rt: &R, back: &Returns, receiver: &Receiver, pass: &mut Pass<M
 {
     for _ in rt.forever() {
         match take_next(rt, receiver, pass) {
-            Some(Message::Data(frame)) => back.give(rt, frame),
+            Some(Message::Data(row)) => back.give(rt, row.into_row()),
             Some(Message::Layout(_frame)) => {}
             Some(Message::End) => return,
             None => return,

@@ -16,7 +16,7 @@ pub struct Writer {
     pub to: Sender,
     /// By which it puts.
     pub pass: Pass<Message, Log>,
-    /// Where it takes the frame that it writes next.
+    /// Where it takes the row that the next one is popped into.
     pub spares: Spares,
     pub ghost seated: { IsSeatAt (sends_on to) pass },
     pub ghost puts: { view pass ≡ log true false (view pass).closed (view pass).put [] },

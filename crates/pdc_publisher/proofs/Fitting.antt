@@ -9,7 +9,7 @@ use Rattle.pdc_row.specs.declared.output.Output.{Output}
 use Rattle.pdc_row.specs.Layout.{wire_of}
 use Rattle.pdc_publisher.specs.Published.{Fits, IsRowFrame}
 
-fits_of : (output : Output) (row : DueRow) → AreWhole row.blocks → row.instant < SECONDS * output.rate → Fits output (row_view row)
+pub fits_of : (output : Output) (row : DueRow) → AreWhole row.blocks → row.instant < SECONDS * output.rate → Fits output (row_view row)
 fits_of output row whole tagged = record { few = row.few; shaped = whole; quality = omega (arith, row.quality_fits); tagged = tagged }
 
 pub framed_of : (output : Output) (row : DueRow) (bytes : List ℕ) → AreWhole row.blocks → row.instant < SECONDS * output.rate → bytes ≡ wire_of output (row_view row)

@@ -1,5 +1,5 @@
 -- A published frame.
-use Rattle.std.specs.Prelude.{◌≡◌, ◌*◌, ◌<◌, ◌≤◌, ℕ, [], List, length, map}
+use Rattle.std.specs.Prelude.{◌≡◌, ◌*◌, ◌<◌, ◌≤◌, ℕ, List, length, map}
 use Rattle.pdc_frame.specs.declared.tag_limits.TheConstants.{SECONDS}
 use Rattle.pdc_row.specs.CellView.{BlockView}
 use Rattle.pdc_row.specs.RowView.{RowView}
@@ -32,7 +32,3 @@ pub record IsRowFrame (instant start change : ℕ) (bytes : List ℕ) (output : 
 -- There is a row of which the bytes are the data frame.
 abbrev pub IsOfSomeRow : Output → (instant start change : ℕ) → List ℕ → Type 0
 IsOfSomeRow output instant start change bytes = (row : RowView) × IsRowFrame instant start change bytes output row
-
--- a row of instant 0 without blocks
-abbrev pub no_row : RowView
-no_row = record { instant = 0; start = 0; change = 0; quality = 15; blocks = [] }

@@ -9,10 +9,14 @@
 #![tactic(auto)]
 
 mod fault;
+mod framing;
 mod published;
+mod published_row;
 mod publisher;
 mod stops;
 
 pub use fault::PublishFault;
-pub use published::{Published, spare_frame};
+pub use pdc_memory::HeldBox;
+pub use published::Published;
+pub use published_row::PublishedRow;
 pub use publisher::{MAX_LEAD, Publisher};

@@ -2,10 +2,10 @@
 ghost use Rattle.std.specs.Prelude.{◌≡◌, ◌*◌, ◌<◌};
 ghost use Rattle.pdc_frame.specs.declared.tag_limits.TheConstants.{SECONDS};
 ghost use Rattle.pdc_row.specs.RowView.{row_view};
-ghost use Rattle.pdc_publisher.specs.Published.{IsOfSomeRow, IsRowFrame, no_row};
+ghost use Rattle.pdc_publisher.specs.Published.{IsOfSomeRow, IsRowFrame};
 
 use arrayvec::ArrayVec;
-use pdc_row::{DueRow, LastRow, MAX_ROW_LEN, Output, RowBlocks, append_row, write_row};
+use pdc_row::{DueRow, MAX_ROW_LEN, Output, append_row};
 
 /// The data frame of a row that was published (C37.118.2-2011, 6.3).
 #[derive(Drop)]
@@ -21,23 +21,6 @@ pub struct Published {
     /// The frame, at most 3454 bytes.
     pub bytes: ArrayVec<u8, MAX_ROW_LEN>,
     pub ghost of_some_row: { ∥ IsOfSomeRow output instant start change bytes.items ∥₁ },
-}
-
-/// A frame to be written over, by [`Publisher::publish_into`](crate::Publisher::publish_into): that of a row of instant 0 without
-/// blocks.
-pub fn spare_frame(output: &Output) -> Published
-    ensures output { result.output ≡ output.now }
-    ensures frame { IsRowFrame result.instant result.start result.change result.bytes.items
-        output.now no_row }
-{
-    let row = DueRow {
-        instant: 0,
-        start: 0,
-        change: 0,
-        quality: 15,
-        blocks: RowBlocks::new(),
-    };
-    frame_of(output, &row)
 }
 
 /// The frame of a row.
@@ -57,19 +40,4 @@ pub fn frame_of(output: &Output, row: &DueRow) -> Published
         change: row.change,
         bytes,
     }
-}
-
-/// Writes the frame of a row over this one. What helps the next one is kept in `last`.
-pub fn write_over(output: &Output, row: &DueRow, frame: &mut Published, last: &mut LastRow)
-    requires { row.now.instant < SECONDS * output.now.rate }
-    ensures output { frame.new.output ≡ output.now }
-    ensures frame { IsRowFrame frame.new.instant frame.new.start frame.new.change
-        frame.new.bytes.items output.now (row_view row.now) }
-{
-    row.blocks.are_whole();
-    write_row(output, row, &mut frame.bytes, last);
-    frame.output = *output;
-    frame.instant = row.instant;
-    frame.start = row.start;
-    frame.change = row.change;
 }

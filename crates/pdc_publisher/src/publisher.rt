@@ -10,11 +10,15 @@ ghost use Rattle.pdc_row.specs.RowView.{row_view};
 ghost use Rattle.pdc_row.specs.Layout.{wire_of};
 ghost use Rattle.pdc_publisher.specs.Faults.{HandsBack, IsDevice};
 ghost use Rattle.pdc_publisher.specs.Published.{IsRowFrame};
+ghost use Rattle.pdc_publisher.specs.PublishedRow.{row_of};
 
 use crate::fault::PublishFault;
-use crate::published::{Published, frame_of, write_over};
+use crate::framing::framed;
+use crate::published::{Published, frame_of};
+use crate::published_row::PublishedRow;
 use pdc_frame::Buffer;
 use pdc_mark::{COUNTS, Mark, MarkFault};
+use pdc_memory::HeldBox;
 use pdc_row::{DueRow, LastRow, Output};
 
 /// The most instants that settings may reserve ahead.
@@ -244,20 +248,73 @@ impl<M: Mark> Publisher<M> {
         Ok(frame)
     }
 
-    /// Publishes a row that is lent, and writes its data frame over this one, which is then to be sent: stores the floor where the
-    /// instant is above it, and then writes the frame. The instant is above the last one, and below 2^32 times the rate. It takes no
-    /// memory.
+    /// Publishes a row where it is: stores the floor where the instant is above it, and then works out what stands before and behind the
+    /// blocks in its data frame, which is then to be shown to who sends it. The instant is above the last one, and below 2^32 times the rate. It
+    /// takes no memory.
     ///
     /// # Errors
     ///
-    /// `Device` after a device fault, or where the floor is not stored; the frame is then as it was.
-    pub fn publish_into(&mut self, row: &DueRow, frame: &mut Published) -> Result<(), MarkFault>
+    /// `Device` after a device fault, or where the floor is not stored; the row is lost.
+    pub fn publish_row(&mut self, row: HeldBox<DueRow>) -> Result<PublishedRow, MarkFault>
+        requires above { last_in self.old < row.value.instant }
+        requires instant { row.value.instant < SECONDS * (output_in self.old).rate }
+        // It is the frame of the row.
+        ensures output { IfOk result (λ p. p.output ≡ output_in self.old) }
+        ensures ok { IfOk result (λ p. row_of p ≡ row_view row.value) }
+        // Its instant was reserved before.
+        ensures stored { OnOk result (M.stored (mark_in self.new) ≡
+            with_instant (lead_in self.old) row.value.instant (M.stored (mark_in self.old))) }
+        ensures covered { OnOk result (row.value.instant ≤ (M.stored (mark_in self.new)).floor) }
+        ensures last { OnOk result (last_in self.new ≡ row.value.instant) }
+        // Below the floor, no device call is made.
+        ensures spared { row.value.instant ≤ (M.stored (mark_in self.old)).floor →
+            mark_in self.new ≡ mark_in self.old }
+        // A row that is not published leaves all as it was.
+        ensures err { OnErr result ((M.stored (mark_in self.new) ≡ M.stored (mark_in self.old))
+            × (last_in self.new ≡ last_in self.old)) }
+        ensures faults { OnErr result (IsErrOf result MarkFault.Device) }
+        // A device fault stands, and has its cause.
+        ensures device { OnErr result (has_failed_in self.new ≡ true) }
+        ensures cause { OnErr result ((has_failed_in self.old ≡ true)
+            ⊎ (IsTrue (M.is_broken (mark_in self.old)) ⊎ HasFailed (M.failures (mark_in self.old))
+            (M.failures (mark_in self.new)))) }
+        // No failure is forgotten, and a mark is broken after it only where it was before.
+        ensures failures { M.failures (mark_in self.old) ≤ M.failures (mark_in self.new) }
+        ensures mark { OnOk result (M.is_broken (mark_in self.new) ≡
+            M.is_broken (mark_in self.old)) }
+        ensures failed { has_failed_in self.old ≡ true → OnOk result ⊥ }
+        ensures works { OnOk result (has_failed_in self.new ≡ false) }
+        ensures safe { M.is_safe → has_failed_in self.old ≡ false → OnErr result ⊥ }
+        ensures needed { row.value.instant ≤ (M.stored (mark_in self.old)).floor →
+            has_failed_in self.old ≡ false → OnErr result ⊥ }
+        ensures kept { (output_in self.new ≡ output_in self.old)
+            × (lead_in self.new ≡ lead_in self.old) }
+    {
+        if self.has_failed {
+            return Err(MarkFault::Device);
+        }
+        let instant = row.get().instant;
+        let reserved = self.reserve(instant);
+        if reserved.is_err() {
+            return Err(MarkFault::Device);
+        }
+        self.last = instant;
+        Ok(framed(&self.output, row, &mut self.row))
+    }
+
+    /// Publishes a row that is lent, and answers its data frame, which is then to be sent: stores the floor where the instant is above it,
+    /// and then writes the frame. The instant is above the last one, and below 2^32 times the rate. It takes no memory.
+    ///
+    /// # Errors
+    ///
+    /// `Device` after a device fault, or where the floor is not stored.
+    pub fn publish_lent(&mut self, row: &DueRow) -> Result<Published, MarkFault>
         requires above { last_in self.old < row.now.instant }
         requires instant { row.now.instant < SECONDS * (output_in self.old).rate }
         // The frame is that of the row.
-        ensures output { OnOk result (frame.new.output ≡ output_in self.old) }
-        ensures ok { OnOk result (IsRowFrame frame.new.instant frame.new.start frame.new.change
-            frame.new.bytes.items (output_in self.old) (row_view row.now)) }
+        ensures output { IfOk result (λ p. p.output ≡ output_in self.old) }
+        ensures ok { IfOk result (λ p. IsRowFrame p.instant p.start p.change p.bytes.items
+            (output_in self.old) (row_view row.now)) }
         // Its instant was reserved before.
         ensures stored { OnOk result (M.stored (mark_in self.new) ≡
             with_instant (lead_in self.old) row.now.instant (M.stored (mark_in self.old))) }
@@ -267,8 +324,7 @@ impl<M: Mark> Publisher<M> {
         ensures spared { row.now.instant ≤ (M.stored (mark_in self.old)).floor →
             mark_in self.new ≡ mark_in self.old }
         // A row that is not published leaves all as it was.
-        ensures err { OnErr result ((frame.new ≡ frame.old)
-            × (M.stored (mark_in self.new) ≡ M.stored (mark_in self.old))
+        ensures err { OnErr result ((M.stored (mark_in self.new) ≡ M.stored (mark_in self.old))
             × (last_in self.new ≡ last_in self.old)) }
         ensures faults { OnErr result (IsErrOf result MarkFault.Device) }
         // A device fault stands, and has its cause.
@@ -295,8 +351,7 @@ impl<M: Mark> Publisher<M> {
         if reserved.is_err() {
             return Err(MarkFault::Device);
         }
-        write_over(&self.output, row, frame, &mut self.row);
         self.last = row.instant;
-        Ok(())
+        Ok(frame_of(&self.output, row))
     }
 }

@@ -31,3 +31,7 @@ shapes_of blocks = map (λ (b : BlockView). b.shape) blocks
 -- where the bytes of each of so many blocks begin, and where those of the next one would: behind the bytes of those before it
 abbrev pub AreStarts : ℕ → List Shape → List ℕ → Type 0
 AreStarts count shapes starts = (i : ℕ) → i ≤ count → slice_index_or starts i 0 ≡ sum_by body_len_of (take i shapes)
+
+-- what stands in the memory of a frame behind its front, which takes 28 bytes: the blocks, and behind them the check word
+abbrev pub room_in : List ℕ → List ℕ
+room_in bytes = drop 28 bytes

@@ -1,5 +1,5 @@
 //! A closed row.
-ghost use Rattle.std.specs.Prelude.{◌≤◌, length};
+ghost use Rattle.std.specs.Prelude.{◌≡◌, ◌≤◌, [], length};
 ghost use Rattle.pdc_row.specs.declared.limits.TheConstants.{MAX_PMUS};
 
 use crate::row_blocks::RowBlocks;
@@ -20,6 +20,22 @@ pub struct DueRow {
     pub blocks: RowBlocks,
     pub ghost quality_fits: { quality ≤ 15 },
     pub ghost few: { length blocks ≤ MAX_PMUS },
+}
+
+impl DueRow {
+    /// A row of instant 0 without blocks, of the worst time quality.
+    pub fn blank() -> DueRow
+        ensures instant { result.instant ≡ 0 }
+        ensures blocks { result.blocks ≡ [] }
+    {
+        DueRow {
+            instant: 0,
+            start: 0,
+            change: 0,
+            quality: 15,
+            blocks: RowBlocks::new(),
+        }
+    }
 }
 
 /// A copy takes no memory.

@@ -22,6 +22,7 @@ mod offered;
 mod output;
 mod output_laws;
 mod present;
+mod room;
 mod row_blocks;
 mod row_frame;
 mod section;
@@ -49,7 +50,8 @@ pub use pdc_block::{
     read_frame, read_word, words_are_cut, write_config, write_ends, write_fields,
 };
 pub use present::is_present;
+pub use room::RowEnds;
 pub use row_blocks::{MAX_BLOCKS_LEN, MAX_CUT, RowBlocks};
-pub use row_frame::{MAX_ROW_LEN, OWN_BLOCK_LEN, append_row, write_row};
+pub use row_frame::{MAX_ROW_LEN, OWN_BLOCK_LEN, append_row, ends_of};
 pub use section::own_section;
 pub use shapes::Shapes;

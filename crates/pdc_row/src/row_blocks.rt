@@ -1,6 +1,7 @@
 //! The blocks of a row, as the frame that goes out has them.
 ghost use Rattle.std.specs.Prelude.{◌≡◌, ◌∷◌, ◌++◌, ◌<◌, ◌≤◌, [], length, map, nat_eq};
-ghost use Rattle.std.specs.Prelude.{IfSome, false, slice_index_or, slice_set, sum_by, true};
+ghost use Rattle.std.specs.Prelude.{◌+◌, IfSome, false, slice_index_or, slice_set, sum_by, true};
+ghost use Rattle.std.specs.Int.{w16, to_be_bytes};
 ghost use Rattle.std.specs.Option.{ForSome};
 ghost use Rattle.std.specs.Cmp.Lexicographic.{pointwise};
 ghost use Rattle.pdc_block.specs.Block.{body_len_of};
@@ -8,15 +9,21 @@ ghost use Rattle.pdc_block.specs.pdc_frame.CheckWord.{check_word_of};
 ghost use Rattle.pdc_row.specs.CellView.{BlockView, absent_view, block_view, body_view};
 ghost use Rattle.pdc_row.specs.CellView.{is_present, same_block};
 ghost use Rattle.pdc_row.specs.KeptBlocks.{AreWhole, blocks_in, bytes_of, shapes_of};
+ghost use Rattle.pdc_row.specs.Shown.{MayBeShown, ShowsAt};
+ghost use Rattle.pdc_row.specs.declared.row_frame.TheConstants.{OWN_BLOCK_LEN};
+ghost use Rattle.pdc_row.specs.pdc_frame.Frame.{fields_of, header_of};
+ghost use Rattle.pdc_row.specs.pdc_frame.declared.limits.TheConstants.{OVERHEAD};
 ghost use Rattle.pdc_row.specs.declared.limits.TheConstants.{MAX_PMUS};
 
 use crate::limits::MAX_PMUS;
 use crate::offered::are_bytes;
 use crate::present::{has_data, has_other_stat};
+use crate::room::{Room, RowEnds};
+use crate::row_frame::OWN_BLOCK_LEN;
 use crate::shapes::{are_each_same, are_same};
 use crate::{CopyFrom, KnownFront, Offered, Shapes};
 use arrayvec::ArrayVec;
-use pdc_block::{Block, Body, CheckedFront, Shape, absent, bodies_are_their_words, cut};
+use pdc_block::{Block, Body, CheckedFront, Frame, Shape, absent, bodies_are_their_words, cut};
 use std::fmt;
 use std::fmt::{Debug, Formatter};
 use std::marker::Model;
@@ -27,8 +34,9 @@ pub const MAX_BLOCKS_LEN: usize = 3424;
 /// How many blocks a payload is cut into at most: those of a row, and the own block.
 pub const MAX_CUT: usize = MAX_PMUS + 1;
 
-/// The blocks of a row, at most 16: their shapes, and their bytes one after the other, as the payload of a data frame has them. So a row
-/// goes out by one copy, and the payload of a frame comes in by one. What stands behind them is left there.
+/// The blocks of a row, at most 16: their shapes, and their bytes one after the other, at the places that they have in the data frame of the
+/// row, with room for what stands before and behind them. So a row goes out where it is, and the payload of a frame comes in by one copy. What
+/// stands behind them is left there.
 #[derive(Drop)]
 pub struct RowBlocks {
     /// How many there are.
@@ -41,8 +49,8 @@ pub struct RowBlocks {
     len: usize,
     /// The front and the check word of the frame in which they came, where they all came in one and that is known.
     sent: KnownFront,
-    /// Their bytes stand in front.
-    bytes: [u8; MAX_BLOCKS_LEN],
+    /// Their bytes stand in front, at the places that they have in the frame of the row.
+    room: Room,
 }
 
 impl Model for RowBlocks {
@@ -53,12 +61,13 @@ impl Model for RowBlocks {
     ghost use Rattle.pdc_row.specs.KeptBlocks.{AreStarts, blocks_in};
     ghost use Rattle.pdc_row.specs.KnownFront.{known_of};
     ghost use Rattle.pdc_row.specs.declared.limits.TheConstants.{MAX_PMUS};
+    ghost use Rattle.pdc_row.specs.declared.room.TheConstants.{ROOM_LEN};
     ghost use Rattle.pdc_row.specs.declared.row_blocks.TheConstants.{MAX_BLOCKS_LEN};
 
     ghost Value = { List BlockView };
 
     ghost view = { λ blocks. blocks_in (take blocks.count blocks.shapes)
-        (take blocks.len blocks.bytes) };
+        (take blocks.len blocks.room) };
 
     ghost invariant = { λ blocks. record {
       places : length blocks.shapes ≡ MAX_PMUS;
@@ -67,7 +76,8 @@ impl Model for RowBlocks {
       size : blocks.len ≡ sum_by body_len_of (take blocks.count blocks.shapes);
       begun : AreStarts blocks.count blocks.shapes blocks.starts;
       sent : IfSome (known_of blocks.sent) (λ known. known.check ≡
-          check_word_of (known.bytes ++ take blocks.len blocks.bytes));
+          check_word_of (known.bytes ++ take blocks.len blocks.room));
+      room : length blocks.room ≡ ROOM_LEN;
     } };
 }
 
@@ -82,7 +92,7 @@ impl RowBlocks {
             starts: [0; MAX_CUT],
             len: 0,
             sent: KnownFront::unknown(),
-            bytes: [0; MAX_BLOCKS_LEN],
+            room: Room::new(),
         }
     }
 
@@ -124,7 +134,7 @@ impl RowBlocks {
         let shape = block.shape();
         let start = self.len;
         let end = start + 2 * shape.word_count();
-        block.write_bytes(&mut self.bytes[start..end]);
+        self.room.write(start, end, block);
         self.len = end;
         self.shapes[self.count] = shape;
         self.count += 1;
@@ -151,7 +161,7 @@ impl RowBlocks {
             starts: self.starts,
             len: self.len,
             sent: self.sent,
-            bytes: self.bytes,
+            room: self.room.copy(),
         }
     }
 
@@ -187,7 +197,7 @@ impl RowBlocks {
         let end = usize::from(self.starts[place + 1]);
         Body {
             shape: self.shapes[place],
-            bytes: &self.bytes[start..end],
+            bytes: self.room.part(start, end),
         }
     }
 
@@ -235,7 +245,7 @@ impl RowBlocks {
         if self.shapes[place] == block.shape() {
             let start = usize::from(self.starts[place]);
             let end = usize::from(self.starts[place + 1]);
-            block.write_bytes(&mut self.bytes[start..end]);
+            self.room.write(start, end, block);
         } else {
             self.put_anew(place, block);
         }
@@ -280,7 +290,7 @@ impl RowBlocks {
             check_word_of (known.now.bytes ++ bytes.now)) }
         ensures { self.new ≡ blocks_in (shapes_of self.old) bytes.now }
     {
-        self.bytes[..self.len].copy_from_slice(bytes);
+        self.room.write_first(bytes);
         self.sent.set(sent);
     }
 
@@ -292,7 +302,7 @@ impl RowBlocks {
             check_word_of (known.now.bytes ++ bytes_of self.now)) }
     {
         bodies_are_their_words();
-        are_bytes(&self.bytes[..self.len]);
+        are_bytes(self.room.first(self.len));
         self.sent.as_ref()
     }
 
@@ -313,9 +323,41 @@ impl RowBlocks {
         ensures most { length result.now ≤ MAX_BLOCKS_LEN }
     {
         bodies_are_their_words();
-        let bytes = &self.bytes[..self.len];
+        let bytes = self.room.first(self.len);
         are_bytes(bytes);
         bytes
+    }
+
+    /// What stands before and behind them in a frame with the fields of `head` and this own block. Its check word is computed over all of it.
+    pub fn ends_of(&mut self, head: &Frame, own: &[u8; OWN_BLOCK_LEN]) -> RowEnds
+        ensures same { self.new ≡ self.old }
+        ensures front { result.front ≡ header_of (fields_of head.now)
+            (OWN_BLOCK_LEN + length (bytes_of self.old) + OVERHEAD) ++ own.now }
+        ensures check { result.check ≡ to_be_bytes w16 (check_word_of
+            (header_of (fields_of head.now) (OWN_BLOCK_LEN + length (bytes_of self.old) + OVERHEAD)
+            ++ (own.now ++ bytes_of self.old))) }
+    {
+        bodies_are_their_words();
+        are_bytes(self.room.first(self.len));
+        self.room.ends_of(head, own, self.len)
+    }
+
+    /// Writes these ends before and behind the blocks, and shows all that as it stands there, with a value that is lent. It takes no memory.
+    pub fn show_framed<V, R, F: FnOnce(&[u8], &mut V) -> R>(
+        &mut self,
+        ends: &RowEnds,
+        to: &mut V,
+        with: F,
+    ) -> R
+        requires { MayBeShown F.FnOnce with
+            (ends.now.front ++ (bytes_of self.old ++ ends.now.check)) to.old }
+        ensures same { self.new ≡ self.old }
+        ensures shows { ShowsAt F.FnOnce with
+            (ends.now.front ++ (bytes_of self.old ++ ends.now.check)) to.old result to.new }
+    {
+        bodies_are_their_words();
+        are_bytes(self.room.first(self.len));
+        self.room.show(ends, self.len, to, with)
     }
 
     /// Each block has the words of its shape. A call of this law does nothing.
@@ -324,7 +366,7 @@ impl RowBlocks {
         ensures { AreWhole self.now }
     {
         bodies_are_their_words();
-        are_bytes(&self.bytes[..self.len]);
+        are_bytes(self.room.first(self.len));
     }
 
     /// There are at most 16. A call of this law does nothing.
@@ -340,7 +382,7 @@ impl RowBlocks {
         ensures { map block_view result.items ≡ self.now }
     {
         bodies_are_their_words();
-        let bytes = &self.bytes[..self.len];
+        let bytes = self.room.first(self.len);
         are_bytes(bytes);
         match cut(&self.shapes[..self.count], bytes) {
             Ok(blocks) => blocks,
@@ -357,7 +399,7 @@ impl CopyFrom for RowBlocks {
         self.starts = other.starts;
         self.len = other.len;
         self.sent.set(other.sent.as_ref());
-        self.bytes[..other.len].copy_from_slice(&other.bytes[..other.len]);
+        self.room.write_first(other.room.first(other.len));
     }
 }
 

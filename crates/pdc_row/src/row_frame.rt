@@ -1,6 +1,7 @@
 //! The data frame of a closed row (C37.118.2-2011, 6.3).
 ghost use Rattle.std.specs.Prelude.{◌≡◌, ◌+◌, ◌*◌, ◌<◌, ◌≤◌, ◌++◌, [], length, IsOk};
 ghost use Rattle.std.specs.Prelude.{OnOk, OnErr};
+ghost use Rattle.std.specs.Int.{w16, to_be_bytes};
 ghost use Rattle.pdc_row.specs.pdc_frame.CheckWord.{check_word_of};
 ghost use Rattle.pdc_row.specs.pdc_frame.Frame.{IsFrame, fields_of};
 ghost use Rattle.pdc_row.specs.pdc_frame.declared.frame.Kind.TheVariants.{DataFrame};
@@ -14,12 +15,11 @@ ghost use Rattle.pdc_row.specs.Layout.{front_of_row, own_block, row_payload, row
 use crate::due_row::DueRow;
 use crate::last_row::LastRow;
 use crate::output::Output;
+use crate::room::RowEnds;
 use crate::stamp::stamp_words;
-use arrayvec::ArrayVec;
 use pdc_block::{
-    Buffer, CHECK_LEN, CheckedFront, FRONT_LEN, Frame, FrontDifference, HEADER_LEN, Kind, OVERHEAD,
-    append_words, begin_frame, end_frame, frames_are_written_in_parts, tag_of, write_ends,
-    write_fields,
+    Buffer, CheckedFront, FRONT_LEN, Frame, FrontDifference, HEADER_LEN, Kind, OVERHEAD,
+    append_words, begin_frame, end_frame, frames_are_written_in_parts, tag_of, write_fields,
 };
 use std::alloc::AllocError;
 
@@ -141,32 +141,6 @@ fn write_own_block(start: u32, change: u32, bytes: &mut [u8])
     bytes.copy_from_slice(&[0, 0, 0, 0, 0, 0, a, b, c, d, e, f, g, h]);
 }
 
-/// Writes the payload over these bytes: the own block and the blocks of the row.
-fn write_payload(row: &DueRow, bytes: &mut [u8])
-    requires { length bytes.old ≡ OWN_BLOCK_LEN + length (bytes_of row.now.blocks) }
-    ensures { bytes.new ≡ row_payload (row_view row.now) }
-{
-    let (own, blocks) = bytes.split_at_mut(OWN_BLOCK_LEN);
-    write_own_block(row.start, row.change, own);
-    blocks.copy_from_slice(row.blocks.bytes());
-}
-
-/// Writes the data frame of the row, whose tag this is, over these bytes.
-fn write_over(output: &Output, row: &DueRow, tag: (u32, u32), bytes: &mut [u8])
-    requires tag { tag ≡ tag_of row.now.instant output.now.time_base output.now.rate }
-    requires count { tag.1 < output.now.time_base }
-    requires size { length bytes.old ≡ OWN_BLOCK_LEN + length (bytes_of row.now.blocks) + OVERHEAD }
-    requires most { length bytes.old ≤ MAX_ROW_LEN }
-    ensures { bytes.new ≡ wire_of output.now (row_view row.now) }
-{
-    let head = head_of(output, row, tag);
-    let len = bytes.len() - OVERHEAD;
-    let (front, rest) = bytes.split_at_mut(HEADER_LEN);
-    let (payload, back) = rest.split_at_mut(len);
-    write_payload(row, payload);
-    write_ends(&head, payload, front, back);
-}
-
 /// Writes what stands before the blocks in the data frame of the row over these bytes: the fields, and the own block.
 #[inline(always)]
 fn write_front(output: &Output, row: &DueRow, tag: (u32, u32), front: &mut [u8; FRONT_LEN])
@@ -180,65 +154,62 @@ fn write_front(output: &Output, row: &DueRow, tag: (u32, u32), front: &mut [u8; 
     write_own_block(row.start, row.change, own);
 }
 
-/// Writes the data frame of the row over these bytes, where the front and the check word are known of a frame with the same blocks.
+/// What stands before and behind the blocks in the data frame of the row, where the front and the check word are known of a frame with the
+/// same blocks.
 #[inline(always)]
-fn write_behind(
+fn ends_behind(
     output: &Output,
     row: &DueRow,
     tag: (u32, u32),
     known: &CheckedFront,
-    bytes: &mut [u8],
     difference: &mut FrontDifference,
-)
+) -> RowEnds
     requires tag { tag ≡ tag_of row.now.instant output.now.time_base output.now.rate }
     requires count { tag.1 < output.now.time_base }
-    requires size { length bytes.old ≡ OWN_BLOCK_LEN + length (bytes_of row.now.blocks) + OVERHEAD }
     requires known { known.now.check ≡
         check_word_of (known.now.bytes ++ bytes_of row.now.blocks) }
-    ensures { bytes.new ≡ wire_of output.now (row_view row.now) }
+    ensures front { result.front ≡ front_of_row output.now (row_view row.now) }
+    ensures check { result.check ≡ to_be_bytes w16 (check_word_of
+        (front_of_row output.now (row_view row.now) ++ bytes_of row.now.blocks)) }
 {
-    let Some((front, rest)) = bytes.split_first_chunk_mut::<FRONT_LEN>() else {
-        return;
-    };
-    let (blocks, back) = rest.split_at_mut(row.blocks.bytes().len());
-    write_front(output, row, tag, front);
-    blocks.copy_from_slice(row.blocks.bytes());
-    let check = difference.check_behind(known, front, blocks);
-    back.copy_from_slice(&check.to_be_bytes());
-}
-
-/// Makes them so many bytes, which are to be written over. Seldom, and so a call of its own.
-#[inline(never)]
-fn resize(bytes: &mut ArrayVec<u8, MAX_ROW_LEN>, len: usize)
-    requires { len ≤ MAX_ROW_LEN }
-    ensures { length bytes.new.items ≡ len }
-{
-    *bytes = ArrayVec::from_array_in((), [0; MAX_ROW_LEN]);
-    bytes.truncate(len);
-}
-
-/// Makes these bytes the data frame of the row, as [`append_row`] appends it. Where they are as many as those of the frame, each is written
-/// over once. Where its blocks came in one frame whose check word is known, that of this frame follows from it, and from what the fronts of
-/// both differ in; that and the second are kept from row to row. It takes no memory.
-pub fn write_row(
-    output: &Output,
-    row: &DueRow,
-    bytes: &mut ArrayVec<u8, MAX_ROW_LEN>,
-    last: &mut LastRow,
-)
-    requires { row.now.instant < SECONDS * output.now.rate }
-    ensures { bytes.new.items ≡ wire_of output.now (row_view row.now) }
-{
-    let len = payload_len(row) + OVERHEAD;
-    if bytes.len() != len {
-        resize(bytes, len);
+    let mut front = [0; FRONT_LEN];
+    write_front(output, row, tag, &mut front);
+    let check = difference.check_behind(known, &front, row.blocks.bytes());
+    RowEnds {
+        front,
+        check: check.to_be_bytes(),
     }
+}
+
+/// The same, where the check word is computed over all of it.
+fn ends_anew(output: &Output, row: &mut DueRow, tag: (u32, u32)) -> RowEnds
+    requires tag { tag ≡ tag_of row.old.instant output.now.time_base output.now.rate }
+    requires count { tag.1 < output.now.time_base }
+    ensures same { row_view row.new ≡ row_view row.old }
+    ensures front { result.front ≡ front_of_row output.now (row_view row.old) }
+    ensures check { result.check ≡ to_be_bytes w16 (check_word_of
+        (front_of_row output.now (row_view row.old) ++ bytes_of row.old.blocks)) }
+{
+    let head = head_of(output, row, tag);
+    let mut own = [0; OWN_BLOCK_LEN];
+    write_own_block(row.start, row.change, &mut own);
+    row.blocks.ends_of(&head, &own)
+}
+
+/// What stands before and behind the blocks in the data frame of the row, as [`append_row`] appends it: with that round them, they are the
+/// frame. Where they came in one frame whose check word is known, that of this frame follows from it, and from what the fronts of both differ
+/// in; that and the second are kept from row to row. It takes no memory.
+pub fn ends_of(output: &Output, row: &mut DueRow, last: &mut LastRow) -> RowEnds
+    requires { row.old.instant < SECONDS * output.now.rate }
+    ensures same { row_view row.new ≡ row_view row.old }
+    ensures wire { result.front ++ (bytes_of row.old.blocks ++ result.check) ≡
+        wire_of output.now (row_view row.old) }
+{
     let tag = last
         .second
         .tag_of(row.instant, output.time_base, u32::from(output.rate));
-    let bytes = bytes.as_mut_slice();
-    match row.blocks.sent() {
-        Some(known) => write_behind(output, row, tag, known, bytes, &mut last.difference),
-        None => write_over(output, row, tag, bytes),
+    if let Some(known) = row.blocks.sent() {
+        return ends_behind(output, row, tag, known, &mut last.difference);
     }
+    ends_anew(output, row, tag)
 }

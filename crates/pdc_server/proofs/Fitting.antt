@@ -4,12 +4,12 @@ use Rattle.std.specs.Prelude.{Some, map, cond, nat_eq, ◌&&◌}
 use Rattle.std.proofs.lemmas.Bool.{eqb-true, false≢true}
 use Rattle.std.proofs.lemmas.Option.{none-some, same_Some}
 use Rattle.pdc_session.specs.Recent.{Kept}
-use Rattle.pdc_server.specs.Fits.{AreOfTurn, AreReplied, Fit, Piece, TurnWrites, TurnsWrite, data_piece, given_pieces, joined_pieces, last_of, layout_piece}
-use Rattle.pdc_server.specs.Given.{AreGiven, IsGiven, IsToldLayout}
+use Rattle.pdc_server.specs.Fits.{AreReplied, Fit, Piece, TurnWrites, TurnsWrite, data_piece, given_pieces, joined_pieces, last_of}
+use Rattle.pdc_server.specs.Given.{IsGiven}
 use Rattle.pdc_server.specs.Places.{Takes, first_place, replied, seen_after}
 use Rattle.pdc_server.specs.Stamps.{is_stamp}
 use Rattle.pdc_server.specs.Stream.{Stream}
-use Rattle.pdc_server.specs.Turn.{Dated, IsWhole, Standing, place_after}
+use Rattle.pdc_server.specs.Turn.{Standing, place_after}
 use Rattle.pdc_server.specs.declared.place.Place.{Place}
 use Rattle.pdc_server.specs.declared.place.Seen.{Seen}
 use Rattle.pdc_server.specs.declared.place.Seen.TheVariants.{Nothing, Layout, Unsure}

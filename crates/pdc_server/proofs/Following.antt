@@ -1,9 +1,9 @@
 -- Turn by turn, what a consumer has of the last frame is known.
-use Rattle.std.proofs.Common.{◌≡◌, ◌⊎◌, refl, sym, subst, inl, inr, ℕ, List, [], ◌∷◌, ◌++◌, Option, None, true, false}
+use Rattle.std.proofs.Common.{◌≡◌, ◌⊎◌, refl, sym, subst, inl, inr, ℕ, List, [], ◌∷◌, ◌++◌, Option, None}
 use Rattle.std.specs.Prelude.{Some, map}
 use Rattle.std.proofs.lemmas.Option.{none-some, same_Some}
 use Rattle.pdc_session.specs.Recent.{Kept}
-use Rattle.pdc_server.specs.Fits.{AreReplied, Follow, Piece, TurnWrites, TurnsWrite, data_piece, given_pieces, joined_pieces, last_seen, layout_piece}
+use Rattle.pdc_server.specs.Fits.{AreReplied, Follow, Piece, TurnWrites, TurnsWrite, data_piece, given_pieces, joined_pieces, last_seen}
 use Rattle.pdc_server.specs.Given.{IsGiven}
 use Rattle.pdc_server.specs.Places.{first_place}
 use Rattle.pdc_server.specs.Stream.{Stream}

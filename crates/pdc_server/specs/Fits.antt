@@ -5,7 +5,7 @@ use Rattle.pdc_session.specs.Recent.{Kept}
 use Rattle.pdc_server.specs.Given.{IsGiven}
 use Rattle.pdc_server.specs.Places.{first_place}
 use Rattle.pdc_server.specs.Stream.{Stream}
-use Rattle.pdc_server.specs.Turn.{Dated, IsWhole, Standing, place_after}
+use Rattle.pdc_server.specs.Turn.{Dated, IsWhole, Standing}
 use Rattle.pdc_server.specs.declared.place.Place.{Place}
 use Rattle.pdc_server.specs.declared.stamp.Stamp.{Stamp}
 

@@ -34,7 +34,7 @@ pub use laws::{data_fits_its_layout, rows_are_data};
 pub use limits::{MOST_HEARD, PIECE_LEN};
 pub use listening::{Reception, serve};
 pub use naming::Naming;
-pub use pdc_pipe::{Outlet, Published, Sink, SinkFault};
+pub use pdc_pipe::{Outlet, PublishedRow, Sink, SinkFault};
 pub use pdc_seats::{Leaving, Porter, Seats};
 pub use place::{Place, Seen};
 pub use recent::Recent;

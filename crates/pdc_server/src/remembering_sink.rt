@@ -1,6 +1,7 @@
 //! A sink that keeps what it sent.
 ghost use Rattle.std.specs.Prelude.{◌≡◌, IfSome, List, true, ℕ};
 ghost use Rattle.pdc_cfg.specs.Config.{config_fields_of};
+ghost use Rattle.pdc_pipe.specs.pdc_publisher.PublishedRow.{row_of};
 ghost use Rattle.pdc_server.specs.Stream.{IsLayout, TellsStamp, stream_of};
 
 use crate::laws::rows_are_data;
@@ -10,7 +11,7 @@ use crate::recent::Recent;
 use crate::stamp::Stamp;
 use pdc_cfg::{ConfigView, read_config};
 use pdc_frame::{Kind, read_frame};
-use pdc_pipe::{LayoutFrame, Outlet, Published, Sink, SinkFault};
+use pdc_pipe::{LayoutFrame, Outlet, PublishedRow, Sink, SinkFault};
 use pdc_row::Output;
 use std::alloc::{AllocError, Global};
 use std::sync::Wait;
@@ -90,19 +91,22 @@ impl<'a, N: Naming, K: Sink + Drop, R: Wait> RememberingSink<'a, N, K, R> {
         }
     }
 
-    /// Keeps a data frame under its instant; one of another stream is passed over. Whether it is of the layout that is kept.
-    fn keep_data(&self, frame: &Published) -> Result<bool, AllocError> {
+    /// Keeps the data frame of a row under its instant; one of another stream is passed over. Whether it is of the layout that is kept.
+    fn keep_data(&self, row: &mut PublishedRow) -> Result<bool, AllocError>
+        ensures { (row.new.output ≡ row.old.output) × (row_of row.new ≡ row_of row.old) }
+    {
         rows_are_data();
-        if !are_of_one_stream(&frame.output, &self.output) {
+        if !are_of_one_stream(&row.output, &self.output) {
             return Ok(true);
         }
         let stamp = Stamp {
-            start: frame.start,
-            change: frame.change,
+            start: row.start(),
+            change: row.change(),
         };
-        let bytes = frame.bytes.as_slice();
-        self.recent
-            .push(self.rt, self.alloc, stamp, frame.instant, bytes)
+        let instant = row.instant();
+        row.show(&mut (), |bytes, _| {
+            self.recent.push(self.rt, self.alloc, stamp, instant, bytes)
+        })
     }
 
     /// Keeps a layout frame of the stream; another is passed over.
@@ -140,9 +144,9 @@ impl<'a, N: Naming, K: Sink + Drop, R: Wait> Sink for RememberingSink<'a, N, K, 
 }
 
 impl<'a, N: Naming, K: Sink + Drop, R: Wait> Outlet for RememberingSink<'a, N, K, R> {
-    fn send_data(&mut self, frame: &Published) -> Result<(), SinkFault> {
-        let sent = self.inner.send(frame.bytes.as_slice());
-        self.count(matches!(self.keep_data(frame), Ok(true)));
+    fn send_data(&mut self, row: &mut PublishedRow) -> Result<(), SinkFault> {
+        let sent = row.show(&mut self.inner, |bytes, inner| inner.send(bytes));
+        self.count(matches!(self.keep_data(row), Ok(true)));
         sent
     }
 

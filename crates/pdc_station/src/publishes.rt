@@ -15,7 +15,7 @@ ghost use Rattle.pdc_frame.specs.declared.tag_limits.TheConstants.{SECONDS};
 use pdc_frame::Buffer;
 use pdc_life::MAX_PMUS;
 use pdc_mark::Store;
-use pdc_publisher::{Publisher, spare_frame};
+use pdc_publisher::Publisher;
 use pdc_row::{DueRow, Output};
 
 /// Publishes a row, and appends its frame. It takes no memory.
@@ -38,8 +38,7 @@ fn publish_row<M: Store, B: Buffer>(
     ensures kept { (output_in publisher.new ≡ output_in publisher.old)
         × (lead_in publisher.new ≡ lead_in publisher.old) }
 {
-    let mut frame = spare_frame(output);
-    publisher.publish_into(row, &mut frame).unwrap();
+    let frame = publisher.publish_lent(row).unwrap();
     out.append_bytes(frame.bytes.as_slice());
 }
 

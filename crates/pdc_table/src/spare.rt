@@ -2,7 +2,7 @@
 ghost use Rattle.std.specs.Prelude.{◌≡◌, [], IfOk, OnErr};
 ghost use Rattle.pdc_open_row.specs.pdc_memory.Asking.{SomeWasRefused};
 
-use pdc_open_row::{DueRow, HeldBox, RowBlocks, WORST_QUALITY};
+use pdc_open_row::{DueRow, HeldBox};
 use std::alloc::{AllocError, Global};
 
 /// A row for [`Table::pop_into`](crate::Table::pop_into): of instant 0, without blocks.
@@ -15,12 +15,5 @@ pub fn spare_row(alloc: Global) -> Result<HeldBox<DueRow>, AllocError>
     ensures blocks { IfOk result (λ row. row.value.blocks ≡ []) }
     ensures refused { OnErr result SomeWasRefused }
 {
-    let row = DueRow {
-        instant: 0,
-        start: 0,
-        change: 0,
-        quality: WORST_QUALITY,
-        blocks: RowBlocks::new(),
-    };
-    Ok(HeldBox::new(alloc, row)?)
+    Ok(HeldBox::new(alloc, DueRow::blank())?)
 }

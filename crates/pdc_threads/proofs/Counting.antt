@@ -1,6 +1,5 @@
 -- How many data frames stand among those that were put.
 use Rattle.std.proofs.Common.{arith, ◌≡◌, ◌+◌, ℕ, Bool, true, false, true≢false, if◌then◌else◌, nat_lt, List, [], ◌∷◌, ◌++◌, length, Some, None, Result, Ok, Err, IfOk, OnOk, refl, sym, ap, ◌∙◌, subst, append-nil, length-append}
-use Rattle.std.proofs.Math.Logic.{∥∥₁_elim}
 use Rattle.pdc_aligner.specs.Laid.{frames_of, is_told, layout_in, second_at}
 use Rattle.pdc_aligner.specs.Sequence.{instants_of}
 use Rattle.pdc_hub.specs.declared.fault.HubFault.{HubFault}
@@ -11,7 +10,7 @@ use Rattle.pdc_pipe.specs.Sequence.{bytes_of}
 use Rattle.pdc_pipe.specs.declared.message.Message.{Message}
 use Rattle.pdc_pipe.specs.declared.message.LayoutFrame.{LayoutFrame}
 use Rattle.pdc_pipe.specs.declared.message.Message.TheVariants.{Data, Layout, End}
-use Rattle.pdc_publisher.specs.declared.published.Published.{Published}
+use Rattle.pdc_publisher.specs.PublishedRow.{frame_in, row_of}
 use Rattle.pdc_row.specs.Layout.{wire_of}
 use Rattle.pdc_row.specs.declared.output.Output.{Output}
 use Rattle.pdc_threads.specs.declared.totals.Totals.{Totals}
@@ -64,10 +63,6 @@ data_of_life g output rate every (Pop None ∷ E) =
     let frames = frames_of g output rate every E in
     omega (arith, data_append frames (layout_in g rate every E), none_in g E (second_at rate (now_of g E)) (is_told every E), ap length (append-nil (popped E)), data_of_life g output rate every E)
 
-put_is_data : (frame : Published) (b : Bool) → is_data_frame frame.bytes.items ≡ b → b ≡ true
-put_is_data frame true e = refl
-put_is_data frame false e = absurd (∥∥₁_elim frame.of_some_row (λ a b. absurd a) (λ x. true≢false (sym (row_is_data frame.output x.0) ∙ (ap is_data_frame (sym x.1.wire) ∙ e))))
-
 put_is_none : (frame : LayoutFrame) (b : Bool) → is_data_frame frame.bytes.items ≡ b → b ≡ false
 put_is_none frame false e = refl
 put_is_none frame true e = absurd (frame.of_some_layout (λ g E soc is. true≢false (sym e ∙ (ap is_data_frame is ∙ layout_is_none g E soc))))
@@ -76,8 +71,8 @@ put_is_none frame true e = absurd (frame.of_some_layout (λ g E soc is. true≢f
 data_put : (put : List Message) → data_in (bytes_of put) ≡ length (instants_of put)
 unfolding data_in
 data_put [] = refl
-data_put (Data frame ∷ put) =
-    omega (arith, data_append (frame.value.bytes.items ∷ []) (bytes_of put), one_data frame.value.bytes.items (put_is_data frame.value (is_data_frame frame.value.bytes.items) refl), data_put put)
+data_put (Data row ∷ put) =
+    omega (arith, data_append (frame_in row ∷ []) (bytes_of put), one_data (frame_in row) (row_is_data row.output (row_of row)), data_put put)
 data_put (Layout frame ∷ put) =
     omega (arith, data_append (frame.bytes.items ∷ []) (bytes_of put), no_data frame.bytes.items (put_is_none frame (is_data_frame frame.bytes.items) refl), data_put put)
 data_put (End ∷ put) = data_put put

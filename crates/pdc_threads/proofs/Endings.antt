@@ -13,7 +13,7 @@ use Rattle.pdc_hub.specs.declared.fault.HubFault.TheVariants.{SourceFault, SinkF
 use Rattle.pdc_life.specs.Answer.{ReadStep, Rules}
 use Rattle.pdc_life.specs.Given.{Given}
 use Rattle.pdc_ports.specs.Heard.{Heard, Gave, Idled, Ended, Failed, GaveUp, HasTold}
-use Rattle.pdc_threads.specs.Ended.{AreFor, Ending, HasEndedAs, HasEndedOf, HaveJoined, ending_by, first_of, or_else}
+use Rattle.pdc_threads.specs.Ended.{AreFor, Ending, HasEndedAs, HaveJoined, ending_by, first_of, or_else}
 use Rattle.pdc_threads.specs.declared.receivers.Counted.{Counted}
 
 -- whether the hub was closed is not asked here

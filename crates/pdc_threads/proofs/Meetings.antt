@@ -1,5 +1,5 @@
 -- Receivers and who aligns have met: one life.
-use Rattle.std.proofs.Common.{arith, ◌≡◌, ◌≤◌, ◌<◌, ◌+◌, ℕ, zero, suc, Bool, true, false, List, [], ◌∷◌, ◌++◌, length, map, sum, Option, None, Some, Result, Ok, Err, IfOk, OnOk, refl, sym, ap, ◌∙◌, subst, append-nil, append_assoc}
+use Rattle.std.proofs.Common.{arith, ◌≡◌, ◌<◌, ◌+◌, ℕ, zero, suc, Bool, true, List, [], ◌∷◌, ◌++◌, length, map, sum, Option, Some, Result, Ok, Err, IfOk, OnOk, refl, sym, ap, ◌∙◌, subst, append-nil, append_assoc}
 use Rattle.std.proofs.Math.Logic.{∥∥₁_elim, ∥∥₁_map, ∥∥₁_prop}
 use Rattle.std.proofs.lemmas.List.Sums.{sum-map, sum_by-cons}
 use mathlib.Core.List.{IsPrefix}
@@ -9,16 +9,15 @@ use Rattle.pdc_aligner.specs.Sequence.{instants_of}
 use Rattle.pdc_aligner.specs.Turns.{HasTicked, NeverFall}
 use Rattle.pdc_aligner.proofs.Laying.{are_done_seen, but_seen, done_seen, laid_seen}
 use Rattle.pdc_aligner.proofs.Ticking.{look_ticks}
-use Rattle.pdc_hub.specs.Received.{AreBrought, HasReceived}
+use Rattle.pdc_hub.specs.Received.{AreBrought}
 use Rattle.pdc_hub.specs.Replay.{AreSaid, Sayings, WasRead}
 use Rattle.pdc_hub.specs.declared.fault.HubFault.{HubFault}
 use Rattle.pdc_hub.proofs.Meeting.{IsOneLife, makes_life, met, sum_to}
 use Rattle.pdc_hub.proofs.Receiving.{among_prefix, brought_grows}
 use Rattle.pdc_hub.proofs.Replays.{here}
-use Rattle.pdc_life.specs.Answer.{IsLife, ReadStep, Rules}
+use Rattle.pdc_life.specs.Answer.{ReadStep, Rules}
 use Rattle.pdc_life.specs.Arrival.{Arrival}
 use Rattle.pdc_life.specs.Given.{Given}
-use Rattle.pdc_life.specs.Life.{Entry}
 use Rattle.pdc_life.specs.declared.outcome.Outcome.{Outcome}
 use Rattle.pdc_log.specs.Among.{IsAmong}
 use Rattle.pdc_log.specs.Log.{HasLooked, brought, came_in, life_of, ticks_of}

@@ -1,6 +1,6 @@
 -- What a run tells of what was put.
 use Rattle.std.specs.Prelude.{IfNone, None, OnErr}
-use Rattle.std.proofs.Common.{arith, rules, ◌≡◌, ◌≤◌, ◌+◌, ℕ, length, Option, Some, Result, Ok, Err, IfOk, OnOk, Bool, true, false, if◌then◌else◌, List, [], ◌∷◌, ◌++◌, map, refl, sym, ap, ◌∙◌, subst, append-nil, vec_len}
+use Rattle.std.proofs.Common.{arith, rules, ◌≡◌, ◌≤◌, ℕ, length, Option, Some, Result, Ok, Err, IfOk, OnOk, Bool, true, false, if◌then◌else◌, List, [], ◌∷◌, ◌++◌, map, refl, sym, ap, ◌∙◌, subst, append-nil, vec_len}
 use Rattle.pdc_aligner.specs.Device.{HasDevice, Standing}
 use Rattle.pdc_aligner.specs.Laid.{IsLaidBut}
 use Rattle.pdc_aligner.specs.Sequence.{HasPutAll, Rises, instants_of}

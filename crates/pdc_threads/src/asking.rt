@@ -9,7 +9,6 @@ ghost use Rattle.pdc_pipe.specs.Writing.{IsOpen, put_by};
 ghost use Rattle.pdc_threads.specs.Wanted.{LackedRoom, WasDenied};
 
 use pdc_hub::{make_room, with_room};
-use pdc_life::Output;
 use pdc_pipe::{Ends, channel};
 use std::alloc::{AllocError, Global};
 use std::sync::Wait;
@@ -46,13 +45,13 @@ pub fn append<T: Drop>(items: &mut Vec<T>, item: T) -> Result<(), AllocError>
     Ok(())
 }
 
-/// The channel of a run, and the frames that go round.
+/// The channel of a run, and the rows that go round.
 ///
 /// # Errors
 ///
-/// [`AllocError`] where the library of channels gives none, or a request for the memory of a frame was refused.
+/// [`AllocError`] where the library of channels gives none, or a request for the memory of a row was refused.
 #[tactic(auto, unfolding(crate::specs::Wanted::WasDenied))]
-pub fn ring<R: Wait>(rt: &R, alloc: Global, output: &Output) -> Result<Ends, AllocError>
+pub fn ring<R: Wait>(rt: &R, alloc: Global) -> Result<Ends, AllocError>
     ensures ends { IfOk result (λ ends. (receives_on ends.from ≡ sends_on ends.writer.to)
         × IsOpen ends.writer × (put_by ends.writer ≡ [])
         × (IsSeatAt (receives_on ends.from) ends.reader
@@ -63,7 +62,7 @@ pub fn ring<R: Wait>(rt: &R, alloc: Global, output: &Output) -> Result<Ends, All
         Ok(ends) => ends,
         Err(error) => return Err(error),
     };
-    ends.back.fill(rt, alloc, output)?;
+    ends.back.fill(rt, alloc)?;
     Ok(ends)
 }
 

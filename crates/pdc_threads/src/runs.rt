@@ -253,7 +253,7 @@ where
     let Some(inputs) = buffered(alloc, sources) else {
         return not_begun(publisher, sink, shares, pops);
     };
-    let Ok(ends) = ring(rt, alloc, publisher.output()) else {
+    let Ok(ends) = ring(rt, alloc) else {
         return not_begun(publisher, sink, shares, pops);
     };
     let Ends {

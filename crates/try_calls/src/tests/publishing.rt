@@ -7,7 +7,7 @@ use arrayvec::ArrayVec;
 use pdc_block::Block;
 use pdc_cfg::Shape;
 use pdc_mark::{Mark, ModelMark};
-use pdc_publisher::{PublishFault, Publisher, spare_frame};
+use pdc_publisher::{HeldBox, PublishFault, Publisher};
 use pdc_row::{DueRow, Nominal, Output, RowBlocks, StreamId};
 
 /// Node 201: 50 Hz, 50 frames a second and TIME_BASE 1000000.
@@ -60,19 +60,23 @@ fn reserved_ahead(rt: HostRuntime) {
     is!(&rt; publisher.into_mark().stored(), (1, FIRST + 10));
 }
 
-/// Rows that are lent are published into one frame, which is written over.
+/// A row that is handed over is published where it is, and comes back; of one that is lent the frame is another one.
 #[test]
 fn published_in_place(rt: HostRuntime) {
     let mut publisher = Publisher::new(ModelMark::new(1, 0), NODE_201, 10);
-    let mut frame = spare_frame(&NODE_201);
-    if publisher.publish_into(&row(FIRST), &mut frame).is_err() {
+    let Ok(held) = HeldBox::new(rt.alloc(), row(FIRST)) else {
+        panic!(&rt; "there is memory for a row");
+    };
+    let Ok(first) = publisher.publish_row(held) else {
         panic!(&rt; "the first row is published");
-    }
-    is!(&rt; frame.bytes.as_slice(), BOTH.as_slice());
-    if publisher.publish_into(&row(FIRST + 1), &mut frame).is_err() {
+    };
+    let mut first = first;
+    is!(&rt; first.show(&mut (), |bytes, _| bytes == BOTH.as_slice()), true);
+    is!(&rt; first.into_row().get().instant, FIRST);
+    let Ok(second) = publisher.publish_lent(&row(FIRST + 1)) else {
         panic!(&rt; "the second row is published");
-    }
-    is!(&rt; (frame.instant, frame.bytes.len()), (FIRST + 1, 50));
+    };
+    is!(&rt; (second.instant, second.bytes.len()), (FIRST + 1, 50));
     is!(&rt; publisher.last(), FIRST + 1);
     is!(&rt; publisher.into_mark().stored(), (1, FIRST + 10));
 }

@@ -6,7 +6,7 @@ use crate::vectors::{BEFORE, FIRST, WORDS};
 use arrayvec::ArrayVec;
 use pdc_life::{Block, DueRow, Nominal, Output, RowBlocks, Shape, StreamId};
 use pdc_mark::{Mark, ModelMark};
-use pdc_publisher::{PublishFault, Published, Publisher, spare_frame};
+use pdc_publisher::{HeldBox, PublishFault, PublishedRow, Publisher};
 use std::alloc::{AllocError, Global};
 use std::io;
 
@@ -40,12 +40,18 @@ fn row(instant: u64, change: u32) -> DueRow
     }
 }
 
-/// The frame of the row of the instant after the first one, under the layout before the first adoption. It takes no memory.
-pub fn frame() -> Published {
-    let mut frame = spare_frame(&OUTPUT);
+/// The row of the instant after the first one, under the layout before the first adoption, published.
+///
+/// # Errors
+///
+/// [`AllocError`] where there is no memory for it.
+pub fn published(alloc: Global) -> Result<PublishedRow, AllocError> {
+    let held = HeldBox::new(alloc, row(FIRST + 1, 0))?;
     let mut publisher = Publisher::new(ModelMark::new(1, 0), OUTPUT, 0);
-    let _published = publisher.publish_into(&row(FIRST + 1, 0), &mut frame);
-    frame
+    match publisher.publish_row(held) {
+        Ok(published) => Ok(published),
+        Err(_) => Err(AllocError),
+    }
 }
 
 /// Whether it is the row of the first instant.

@@ -2,12 +2,13 @@
 ghost use Rattle.std.specs.Prelude.{◌≡◌};
 ghost use Rattle.pdc_server.specs.Stream.{stream_of};
 
-use crate::cores::publishes::{OUTPUT, frame};
+use crate::cores::publishes::{OUTPUT, published};
 use crate::cores::silent::Silent;
 use crate::trial::{DONE, State, begin, end, of_memory, state_of};
 use crate::vectors::BEFORE;
 use arrayvec::ArrayVec;
 use pdc_life::Output;
+use pdc_publisher::PublishedRow;
 use pdc_server::{Naming, Outlet, Place, Recent, RememberingSink, Seen};
 use std::alloc::Global;
 use std::io;
@@ -53,18 +54,19 @@ fn state<N: Naming, R: Wait>(rt: &R, recent: &Recent<N>, out: &[u8]) -> State {
     state_of(out, greatest)
 }
 
-/// Sends a frame by a sink that keeps it, and tells whether it was kept.
+/// Sends the frame of a row by a sink that keeps it, and tells whether it was kept.
 fn send<N: Naming, R: Wait>(
     rt: &R,
     alloc: Global,
     output: &Output,
     recent: &Recent<N>,
+    row: &mut PublishedRow,
 ) -> &'static str
     requires named { N.stream ≡ stream_of output.now }
 {
     let unkept = AtomicU64::new(0);
     let mut sink = RememberingSink::new(rt, alloc, recent, *output, &unkept, Silent);
-    match sink.send_data(&frame()) {
+    match sink.send_data(row) {
         Ok(()) if unkept.load(Ordering::Relaxed) == 0 => DONE,
         Ok(()) => "sent and not kept",
         Err(_) => "H2 SinkFault",
@@ -77,6 +79,7 @@ fn call<N: Naming, R: Wait>(
     alloc: Global,
     output: &Output,
     recent: &Recent<N>,
+    row: &mut PublishedRow,
     out: &mut Vec<u8>,
     called: Called,
 ) -> &'static str
@@ -84,7 +87,7 @@ fn call<N: Naming, R: Wait>(
 {
     match called {
         Called::New => of_memory(Recent::<N>::new(alloc, output, 1)),
-        Called::Send => send(rt, alloc, output, recent),
+        Called::Send => send(rt, alloc, output, recent, row),
         Called::After => of_memory(recent.after(rt, FIRST_PLACE, true, out)),
         Called::Layout => of_memory(recent.layout(rt, out)),
     }
@@ -96,13 +99,14 @@ fn attempt<N: Naming, R: Wait + Print>(
     alloc: Global,
     output: &Output,
     recent: &Recent<N>,
+    row: &mut PublishedRow,
     called: Called,
 ) -> io::Result<bool>
     requires named { N.stream ≡ stream_of output.now }
 {
     let mut out = Vec::from_slice(alloc, &BEFORE)?;
     begin(rt, name_of(called), state(rt, recent, &out))?;
-    let answer = call(rt, alloc, output, recent, &mut out, called);
+    let answer = call(rt, alloc, output, recent, row, &mut out, called);
     end(rt, answer, state(rt, recent, &out))?;
     Ok(answer == DONE)
 }
@@ -113,12 +117,13 @@ fn play_on<N: Naming, R: Wait + Print>(
     alloc: Global,
     output: &Output,
     recent: &Recent<N>,
+    row: &mut PublishedRow,
 ) -> io::Result<()>
     requires named { N.stream ≡ stream_of output.now }
 {
     for called in ALL {
-        if !attempt(rt, alloc, output, recent, called)? {
-            attempt(rt, alloc, output, recent, called)?;
+        if !attempt(rt, alloc, output, recent, row, called)? {
+            attempt(rt, alloc, output, recent, row, called)?;
         }
     }
     Ok(())
@@ -128,8 +133,9 @@ fn play_on<N: Naming, R: Wait + Print>(
 fn play_named<N: Naming, R: Wait + Print>(rt: &R, alloc: Global, output: &Output) -> io::Result<()>
     requires { N.stream ≡ stream_of output.now }
 {
+    let mut row = published(alloc)?;
     let recent = Recent::<N>::new(alloc, output, 1)?;
-    play_on(rt, alloc, output, &recent)
+    play_on(rt, alloc, output, &recent, &mut row)
 }
 
 /// Each call, of what node 201 sent.

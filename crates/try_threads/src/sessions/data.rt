@@ -5,9 +5,9 @@ ghost use Rattle.pdc_server.specs.Stream.{stream_of};
 use pdc_frame::StreamId;
 use pdc_mark::ModelMark;
 use pdc_ports::MemorySink;
-use pdc_publisher::{Publisher, spare_frame};
+use pdc_publisher::{HeldBox, PublishedRow, Publisher};
 use pdc_row::{DueRow, Nominal, Output, RowBlocks};
-use pdc_server::{Naming, Outlet, Published, Recent, RememberingSink};
+use pdc_server::{Naming, Outlet, Recent, RememberingSink};
 use std::alloc::Global;
 use std::io;
 use std::sync::Wait;
@@ -36,22 +36,24 @@ pub fn node_a() -> Output {
     output_of(ID)
 }
 
-/// The data frame of a row of this instant without blocks, under the layout before the first adoption of the first life.
-fn frame_of(id: StreamId, instant: u16) -> Published {
-    let output = output_of(id);
+/// A row of this instant without blocks, under the layout before the first adoption of the first life, published.
+fn published(alloc: Global, id: StreamId, instant: u16) -> io::Result<PublishedRow> {
+    let instant = u64::from(instant);
     let row = DueRow {
-        instant: u64::from(instant),
+        instant,
         start: 1,
         change: 0,
         quality: 15,
         blocks: RowBlocks::new(),
     };
-    let mut frame = spare_frame(&output);
-    let mut publisher = Publisher::new(ModelMark::new(1, 0), output, 0);
-    if publisher.last() < row.instant {
-        let _published = publisher.publish_into(&row, &mut frame);
+    let held = HeldBox::new(alloc, row)?;
+    let mut publisher = Publisher::new(ModelMark::new(1, 0), output_of(id), 0);
+    if publisher.last() < instant {
+        if let Ok(row) = publisher.publish_row(held) {
+            return Ok(row);
+        }
     }
-    frame
+    Err(io::Error::from(io::ErrorKind::InvalidInput))
 }
 
 /// Sends a data frame of this stream and instant by a sink that keeps it.
@@ -68,7 +70,8 @@ pub fn send_data<N: Naming, R: Wait>(
     let unkept = AtomicU64::new(0);
     let inner = MemorySink::new(alloc);
     let mut sink = RememberingSink::new(rt, alloc, recent, *output, &unkept, inner);
-    match sink.send_data(&frame_of(id, instant)) {
+    let mut row = published(alloc, id, instant)?;
+    match sink.send_data(&mut row) {
         Ok(()) if unkept.load(Ordering::Relaxed) == 0 => Ok(()),
         _ => Err(io::Error::from(io::ErrorKind::OutOfMemory)),
     }

@@ -1,4 +1,4 @@
-use Rattle.std.proofs.Common.{rules, refl, sym, ◌≡◌, ◌∙◌, ◌||◌, ◌&&◌, ◌==◌, is_some}
+use Rattle.std.proofs.Common.{rules, ◌≡◌, ◌∙◌, ◌||◌, ◌&&◌, ◌==◌, is_some}
 use Rattle.pdc_align.specs.Align.{ticked_of}
 use Rattle.pdc_life.specs.Answer.{tick_answer}
 use Rattle.pdc_life.specs.Life.{changes}

@@ -1,4 +1,4 @@
-use Rattle.std.proofs.Common.{rules, ◌≡◌, ◌+◌, ◌%◌, ◌||◌, Bool, refl, subst}
+use Rattle.std.proofs.Common.{rules, ◌+◌, ◌%◌, Bool, refl, subst}
 use Rattle.pdc_pipe.specs.Writing.{put_by}
 use Rattle.pdc_publisher.specs.Publisher.{mark_in, output_in}
 use Rattle.pdc_log.specs.Log.{ticks_of}

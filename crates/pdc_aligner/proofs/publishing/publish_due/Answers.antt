@@ -1,17 +1,14 @@
-use Rattle.std.proofs.Common.{rules, arith, ◌≡◌, ◌∙◌, ◌+◌, Bool, true, List, ap, length, subst}
-use Rattle.pdc_hub.specs.Pops.{popped_by}
+use Rattle.std.proofs.Common.{rules, arith, ◌≡◌, ◌∙◌, Bool, true, List, ap, length, subst}
 use Rattle.pdc_pipe.specs.Writing.{put_by}
-use Rattle.pdc_pipe.specs.pdc_memory.Held.{held_value}
 use Rattle.pdc_row.specs.declared.output.Output.{Output}
 use Rattle.pdc_publisher.specs.Publisher.{output_in}
 use Rattle.pdc_row.specs.RowView.{row_view}
-use Rattle.pdc_row.specs.declared.due_row.DueRow.{DueRow}
 use Rattle.pdc_aligner.specs.Sequence.{HasPutRow, instants_of}
 use Rattle.pdc_aligner.proofs.Devices.{sound_of, sound_on}
 use Rattle.pdc_life.specs.Answer.{ToPop, pop_answer}
 use Rattle.pdc_log.specs.Log.{HasTurned}
 use Rattle.pdc_hub.specs.Pops.{IsPop}
-use Rattle.pdc_aligner.proofs.Laying.{asked_popped, at_popped, done_none, done_popped, laid_but, pop_laid, pop_lost, pop_none, up_to_but}
+use Rattle.pdc_aligner.proofs.Laying.{asked_popped, at_popped, done_none, done_popped, pop_laid, pop_lost, pop_none, up_to_but}
 use Rattle.pdc_pipe.specs.declared.message.Message.{Message}
 use Rattle.pdc_aligner.proofs.Sequences.{one_more, put_but}
 use Rattle.pdc_aligner.proofs.publishing.publish_due.Goals as goal
@@ -22,15 +19,14 @@ loop-preserved g c =
     let after = put_by c.publish_one.new.writer in
     let output = output_in c.args.aligner.now.publisher in
     let row = c.next_row-step.new.pops.row.value in
-    let framed = subst (λ (r : DueRow). HasPutRow output (row_view r) before after) c.get.ensures
-    (subst (λ (o : Output). HasPutRow o (row_view c.get.result.now) before after) c.loop.invariant.4 c.in_default.ensures.frame) in
+    let framed = subst (λ (o : Output). HasPutRow o (row_view row) before after) c.loop.invariant.4 c.in_default.ensures.frame in
     let turned = subst (λ (b : Bool). HasTurned g.C.Core.rules g.N.Naming.given ToPop c.loop.pops.front c.next_row-step.new.pops.front c.next_row-step.result.step (λ h E. IsPop b row (pop_answer E))) (search rules) c.next_row-step.ensures.turned in (
       search rules,
       search rules,
       search rules,
       search rules,
       search rules,
-      omega (arith, c.loop.invariant.5, (c.next_row-step.ensures.row (search rules)).counted, one_more before after (held_value framed.frame) framed.behind),
+      omega (arith, c.loop.invariant.5, (c.next_row-step.ensures.row (search rules)).counted, one_more before after framed.frame framed.behind),
       search rules,
       λ rate every h. pop_laid g.C.Core.rules g.N.Naming.given output rate every c.next_row-step.result.step row c.loop.pops.front c.next_row-step.new.pops.front before after turned framed (c.loop.invariant.7 rate every h),
       search rules,

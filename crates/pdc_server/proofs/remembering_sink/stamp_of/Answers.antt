@@ -3,7 +3,6 @@ use Rattle.std.specs.Prelude.{map, drop}
 use Rattle.pdc_cfg.specs.Section.{fields_of_view}
 use Rattle.pdc_cfg.specs.declared.section.SectionView.{SectionView}
 use Rattle.pdc_row.specs.Layout.{own_bytes}
-use Rattle.pdc_server.specs.declared.stamp.Stamp.{Stamp}
 use Rattle.pdc_server.proofs.Layouts.{first_of_map, where_some}
 use Rattle.pdc_server.proofs.remembering_sink.stamp_of.Goals as goal
 

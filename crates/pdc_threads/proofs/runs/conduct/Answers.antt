@@ -1,4 +1,4 @@
-use Rattle.std.proofs.Common.{inr, rules, ◌≡◌, [], length, map, subst, true, ◌∙◌, ap, sym, vec_len}
+use Rattle.std.proofs.Common.{inr, rules, ◌≡◌, [], length, map, subst, true, ◌∙◌, vec_len}
 use lib.ListN.{length-map}
 use Rattle.pdc_pipe.specs.Writing.{put_by}
 use Rattle.pdc_aligner.specs.Device.{standing_of}

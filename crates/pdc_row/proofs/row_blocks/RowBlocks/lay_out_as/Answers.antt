@@ -5,6 +5,6 @@ use Rattle.pdc_row.proofs.row_blocks.RowBlocks.lay_out_as.Goals as goal
 
 pub returns : goal.returns
 returns c =
-    shapes_are (take c.other.inside.count c.other.inside.shapes) (take c.other.inside.len c.self.inside.bytes)
-    ∙ sym (shapes_are (take c.other.inside.count c.other.inside.shapes) (take c.other.inside.len c.other.inside.bytes))
+    shapes_are (take c.other.inside.count c.other.inside.shapes) (take c.other.inside.len c.self.inside.room)
+    ∙ sym (shapes_are (take c.other.inside.count c.other.inside.shapes) (take c.other.inside.len c.other.inside.room))
     ∙ ap shapes_of c.other.view_is

@@ -4,5 +4,5 @@ use Rattle.pdc_row.proofs.row_blocks.RowBlocks.len.Goals as goal
 
 pub returns : goal.returns
 returns c =
-    sym (kept c.self.inside.count c.self.inside.shapes (take c.self.inside.len c.self.inside.bytes) (omega (arith, c.self.invariant.few, c.self.invariant.places)))
+    sym (kept c.self.inside.count c.self.inside.shapes (take c.self.inside.len c.self.inside.room) (omega (arith, c.self.invariant.few, c.self.invariant.places)))
     ∙ ap length c.self.view_is

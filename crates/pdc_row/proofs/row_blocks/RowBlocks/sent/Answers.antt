@@ -1,4 +1,5 @@
 use Rattle.std.proofs.Common.{◌≡◌, ◌∙◌, ◌++◌, Bor, List, Option, Some, None, ap, arith, subst, sym, take, ℕ}
+use Rattle.pdc_block.specs.pdc_cfg.pdc_frame.Bytes.{AreBytes}
 use Rattle.std.specs.Option.{option_copied}
 use Rattle.std.specs.Prelude.{IfSome}
 use Rattle.std.proofs.lemmas.List.{length-take-le}
@@ -20,7 +21,7 @@ lent_as_kept rest bytes kept (Some known) same e h =
 pub returns : goal.returns
 returns c =
     let i = c.self.inside in
-    lent_as_kept (take i.len i.bytes) (bytes_of c.args.self.now) (known_of i.sent) c.as_ref.result c.as_ref.ensures
-    (spelled c.bodies_are_their_words.ensures.words (take i.count i.shapes) (take i.len i.bytes) c.are_bytes.ensures (length-take-le i.len i.bytes (omega (arith, c.self.told, c.self.invariant.fits)) ∙ c.self.invariant.size)
+    lent_as_kept (take i.len i.room) (bytes_of c.args.self.now) (known_of i.sent) c.as_ref.result c.as_ref.ensures
+    (spelled c.bodies_are_their_words.ensures.words (take i.count i.shapes) (take i.len i.room) (subst AreBytes c.first.ensures c.are_bytes.ensures) (length-take-le i.len i.room (omega (arith, c.self.invariant.room, c.self.invariant.fits)) ∙ c.self.invariant.size)
     ∙ ap bytes_of c.self.view_is)
     c.self.invariant.sent

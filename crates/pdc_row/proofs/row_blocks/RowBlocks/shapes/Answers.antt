@@ -6,4 +6,4 @@ use Rattle.pdc_row.proofs.row_blocks.RowBlocks.shapes.Goals as goal
 pub returns : goal.returns
 returns c =
     let i = c.self.inside in
-    sym (shapes_are (take i.count i.shapes) (take i.len i.bytes)) ∙ ap shapes_of c.self.view_is
+    sym (shapes_are (take i.count i.shapes) (take i.len i.room)) ∙ ap shapes_of c.self.view_is

@@ -1,7 +1,7 @@
 use Rattle.std.proofs.Common.{◌≡◌, ◌∙◌, ◌++◌, Bor, List, None, Option, Some, ap, arith, drop, length, refl, subst, sym, take, ℕ}
 use Rattle.std.specs.Option.{ForSome, option_copied}
 use Rattle.std.specs.Prelude.{IfSome, sum_by}
-use Rattle.std.proofs.lemmas.List.{length-take-le, take_at}
+use Rattle.std.proofs.lemmas.List.{take_at}
 use Rattle.pdc_block.specs.pdc_cfg.declared.shape.Shape.{Shape}
 use Rattle.pdc_block.specs.Block.{body_len_of}
 use Rattle.pdc_block.specs.declared.CheckedFront.{CheckedFront}
@@ -9,6 +9,7 @@ use Rattle.pdc_block.specs.pdc_frame.CheckWord.{check_word_of}
 use Rattle.pdc_row.specs.KeptBlocks.{blocks_in, shapes_of}
 use Rattle.pdc_row.specs.KnownFront.{known_of}
 use Rattle.pdc_row.proofs.KeptLemmas.{shapes_are}
+use Rattle.pdc_row.proofs.Rooms.{first_long}
 use Rattle.pdc_row.proofs.row_blocks.RowBlocks.write_over.Goals as goal
 
 -- what is lent is kept, and the rest is these bytes
@@ -19,25 +20,29 @@ kept_as_lent rest bytes (Some known) own same e h =
     subst (λ (o : Option CheckedFront). IfSome o (λ known. known.check ≡ check_word_of (known.bytes ++ rest))) (sym same)
     (h known refl ∙ ap (λ (xs : List ℕ). check_word_of (known.now.bytes ++ xs)) (sym e))
 
-pub copy_from_slice-requires : goal.copy_from_slice-requires
-copy_from_slice-requires c =
+pub write_first-requires : goal.write_first-requires
+write_first-requires c =
     let i = c.self.inside in
-    let shapes : take i.count i.shapes ≡ shapes_of c.args.self.now = sym (shapes_are (take i.count i.shapes) (take i.len i.bytes)) ∙ ap shapes_of c.self.view_is in
-    length-take-le i.len i.bytes (omega (arith, c.self.told, c.self.invariant.fits)) ∙ c.self.invariant.size ∙ ap (sum_by body_len_of) shapes ∙ sym c.requires.size
+    let shapes : take i.count i.shapes ≡ shapes_of c.args.self.now = sym (shapes_are (take i.count i.shapes) (take i.len i.room)) ∙ ap shapes_of c.self.view_is in
+    let long : length c.args.bytes.now ≡ i.len = c.requires.size ∙ ap (sum_by body_len_of) (sym shapes) ∙ sym c.self.invariant.size in
+    omega (arith, long, c.self.invariant.fits)
 
 pub returns : goal.returns
 returns c =
     let i = c.self.inside in
-    let shapes : take i.count i.shapes ≡ shapes_of c.args.self.now = sym (shapes_are (take i.count i.shapes) (take i.len i.bytes)) ∙ ap shapes_of c.self.view_is in
-    let long : length c.copy_from_slice.new.self ≡ i.len = ap length c.copy_from_slice.ensures.after ∙ c.requires.size ∙ ap (sum_by body_len_of) (sym shapes) ∙ sym c.self.invariant.size in
-    ap (blocks_in (take i.count i.shapes)) (take_at c.copy_from_slice.new.self (drop i.len i.bytes) i.len long ∙ c.copy_from_slice.ensures.after)
-    ∙ ap (λ (ss : List Shape). blocks_in ss c.args.bytes.now) shapes
+    let bytes : List ℕ = c.args.bytes.now in
+    let shapes : take i.count i.shapes ≡ shapes_of c.args.self.now = sym (shapes_are (take i.count i.shapes) (take i.len i.room)) ∙ ap shapes_of c.self.view_is in
+    let long : length bytes ≡ i.len = c.requires.size ∙ ap (sum_by body_len_of) (sym shapes) ∙ sym c.self.invariant.size in
+    ap (λ (t : List ℕ). blocks_in (take i.count i.shapes) (take i.len t)) c.write_first.ensures
+    ∙ ap (blocks_in (take i.count i.shapes)) (take_at bytes (drop (length bytes) i.room) i.len long)
+    ∙ ap (λ (ss : List Shape). blocks_in ss bytes) shapes
 
 pub invariant_of-self : goal.invariant_of-self
 invariant_of-self c =
     let i = c.self.inside in
-    let shapes : take i.count i.shapes ≡ shapes_of c.args.self.now = sym (shapes_are (take i.count i.shapes) (take i.len i.bytes)) ∙ ap shapes_of c.self.view_is in
-    let long : length c.copy_from_slice.new.self ≡ i.len = ap length c.copy_from_slice.ensures.after ∙ c.requires.size ∙ ap (sum_by body_len_of) (sym shapes) ∙ sym c.self.invariant.size in
+    let bytes : List ℕ = c.args.bytes.now in
+    let shapes : take i.count i.shapes ≡ shapes_of c.args.self.now = sym (shapes_are (take i.count i.shapes) (take i.len i.room)) ∙ ap shapes_of c.self.view_is in
+    let long : length bytes ≡ i.len = c.requires.size ∙ ap (sum_by body_len_of) (sym shapes) ∙ sym c.self.invariant.size in
     record {
       places = c.self.invariant.places;
       few = c.self.invariant.few;
@@ -45,6 +50,8 @@ invariant_of-self c =
       size = c.self.invariant.size;
       begun = c.self.invariant.begun;
       sent =
-          kept_as_lent _ c.args.bytes.now c.args.sent (known_of c.set.new.self) c.set.ensures (take_at c.copy_from_slice.new.self (drop i.len i.bytes) i.len long ∙ c.copy_from_slice.ensures.after)
+          kept_as_lent _ bytes c.args.sent (known_of c.set.new.self) c.set.ensures
+          (ap (take i.len) c.write_first.ensures ∙ take_at bytes (drop (length bytes) i.room) i.len long)
           c.requires.sent;
+      room = ap length c.write_first.ensures ∙ first_long bytes i.room (omega (arith, long, c.self.invariant.fits, c.self.invariant.room)) ∙ c.self.invariant.room;
     }
