@@ -33,9 +33,9 @@ pub use laws::{columns_stand, others_are_left};
 pub use layout::append_layout_frame;
 pub use pdc_arrival::{
     Arrival, Buffer, Claim, ClaimedData, ColumnSection, Counts, DueRow, Frame, FrameFault,
-    MAX_PMUS, MergerSettings, Outcome, Output, Reading, Refusal, Section, SectionView, Settings,
-    Stamp, arrival_from_node, claim_from_node, hear_from_node, hear_from_pmu, read_from_node,
-    read_from_pmu,
+    LentClaim, MAX_PMUS, MergerSettings, Outcome, Output, Reading, Refusal, Section, SectionView,
+    Settings, Stamp, arrival_from_node, claim_from_node, hear_from_node, hear_from_pmu,
+    read_from_node, read_from_pmu,
 };
 pub use pdc_table::{Held, HeldBox, KnownFront, copy_block};
 pub use plan::Plan;

@@ -6,7 +6,7 @@ ghost use Rattle.pdc_arrival.specs.Claimed.{claimed_view};
 ghost use Rattle.pdc_arrival.specs.declared.from_node.TheConstants.{NODES};
 
 use crate::from_node::node_of;
-use pdc_life::{Claim, Kind, MergedNode, MergerSettings, instant, read_claimed};
+use pdc_life::{Kind, LentClaim, MergedNode, MergerSettings, instant, read_claimed};
 
 /// Data of a node, if the check word of its frame is right; else bytes that are refused for it.
 #[derive(Clone, Copy, Debug)]
@@ -18,7 +18,7 @@ pub struct ClaimedData<'a> {
     /// What stands between FRACSEC and CHK.
     pub payload: &'a [u8],
     /// What tells whether the check word is right.
-    pub claim: Claim,
+    pub claim: LentClaim<'a>,
 }
 
 /// What bytes say that arrived for the stream with this number, where they are data of its node, if the check word is right. It is not computed

@@ -27,7 +27,7 @@ pub use from_node::{NODES, arrival_from_node, hear_from_node, read_from_node};
 pub use from_pmu::{arrival_from_pmu, hear_from_pmu, read_from_pmu};
 pub use own_block::{bears, body};
 pub use pdc_life::{
-    Body, Buffer, CAUSES, Claim, DueRow, Frame, FrameFault, MAX_PMUS, MergerSettings,
+    Body, Buffer, CAUSES, Claim, DueRow, Frame, FrameFault, LentClaim, MAX_PMUS, MergerSettings,
     OWN_BLOCK_LEN, Outcome, Output, Reading, Refusal, Section, SectionView, Settings, Shape,
     WaitKind, append_layout, causes_are_told_apart, cells_are_of_sections, numbers_rise,
     taken_is_in_time,

@@ -1,6 +1,7 @@
 -- What contracts see of data that is lent, and of what it is kept with.
-use Rattle.std.specs.Prelude.{◌≡◌, ℕ, ◌||◌, Bool, false, true, List, None, Option, Some, length, nat_le}
+use Rattle.std.specs.Prelude.{◌≡◌, ℕ, ◌||◌, Bool, false, true, List, None, Option, Some, length, nat_le, option_map}
 use Rattle.pdc_align.specs.pdc_life.Arrival.{Arrival}
+use Rattle.pdc_align.specs.pdc_frame.Claim.{claim_of}
 use Rattle.pdc_core.specs.KeptArrival.{can_hold, data_view, taken_view}
 use Rattle.pdc_core.specs.declared.kept_arrival.KeptArrival.{KeptArrival as KeptArrivalData}
 use Rattle.pdc_core.specs.declared.kept_arrival.KeptArrival.TheVariants as taken
@@ -8,7 +9,7 @@ use Rattle.pdc_core.specs.declared.lent_data.LentData.{LentData}
 use Rattle.pdc_core.specs.declared.payload.TheConstants.{SHORT_PAYLOAD}
 
 abbrev pub lent_view : LentData → Arrival
-lent_view lent = data_view lent.instant lent.quality lent.payload.now lent.claim
+lent_view lent = data_view lent.instant lent.quality lent.payload.now (option_map claim_of lent.claim)
 
 -- what arrived: data that is lent, or else what is kept
 abbrev pub brought_view : Option LentData → KeptArrivalData → Arrival

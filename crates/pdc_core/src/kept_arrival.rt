@@ -1,5 +1,6 @@
 //! What arrived, with its bytes kept: it can be handed on where what was read would not live.
-ghost use Rattle.std.specs.Prelude.{◌≡◌, ◌≤◌, [], ◌∷◌, IfOk, IsOk, None, OnErr, OnOk, false, length, map, true};
+ghost use Rattle.std.specs.Prelude.{◌≡◌, ◌≤◌, [], ◌∷◌, IfOk, IsOk, None, OnErr, OnOk, false, length, map, option_map, true};
+ghost use Rattle.pdc_align.specs.pdc_frame.Claim.{claim_of};
 ghost use Rattle.pdc_core.specs.KeptArrival.{data_view, kept_part, taken_view, takes_no_memory};
 ghost use Rattle.pdc_core.specs.KeptArrival.{wanted_of};
 ghost use Rattle.pdc_core.specs.Lent.{can_take, has_room, lent_view};
@@ -123,7 +124,18 @@ impl LentData<'_> {
     pub fn view(&self) -> Arrival<'_>
         ensures { arrival_view result ≡ lent_view self.now }
     {
-        data_view(self.instant, self.quality, self.payload, &self.claim)
+        data_view(self.instant, self.quality, self.payload, &self.kept_claim())
+    }
+
+    /// A copy of what tells whether the check word is right, where it is not computed yet.
+    #[inline(always)]
+    fn kept_claim(&self) -> Option<Claim>
+        ensures { result ≡ option_map claim_of self.now.claim }
+    {
+        match &self.claim {
+            Some(claim) => Some(claim.to_claim()),
+            None => None,
+        }
     }
 }
 
@@ -223,7 +235,7 @@ impl KeptArrival {
             if payload.set(lent.payload) {
                 *instant = lent.instant;
                 *quality = lent.quality;
-                *claim = lent.claim;
+                *claim = lent.kept_claim();
                 return true;
             }
         }
@@ -240,7 +252,7 @@ impl KeptArrival {
             instant: lent.instant,
             quality: lent.quality,
             payload: Payload::in_place(lent.payload),
-            claim: lent.claim,
+            claim: lent.kept_claim(),
         }
     }
 

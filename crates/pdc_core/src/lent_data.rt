@@ -1,6 +1,6 @@
 //! Data as it was read, lent from the bytes of its frame.
 
-use pdc_align::Claim;
+use pdc_align::LentClaim;
 
 /// Data as it was read, lent from the bytes of its frame: none of it is copied yet.
 #[derive(Clone, Copy, Debug)]
@@ -12,5 +12,5 @@ pub struct LentData<'a> {
     /// What stands between FRACSEC and CHK.
     pub payload: &'a [u8],
     /// What tells whether the check word is right, where it is not computed yet: where it is not, these are bytes that are refused for it.
-    pub claim: Option<Claim>,
+    pub claim: Option<LentClaim<'a>>,
 }

@@ -2,6 +2,7 @@
 use Rattle.std.proofs.Common.{◌≡◌, ◌⊎◌, ℕ, ◌+◌, ◌-◌, ◌*◌, ◌<◌, ◌++◌, List, ap, arith, drop, length, sym, take, ◌∙◌}
 use Rattle.std.specs.Prelude.{slice_index}
 use Rattle.std.proofs.lemmas.Bool.{eqb-false, eqb-true}
+use Rattle.std.proofs.lemmas.List.{get_or-drop}
 use Rattle.std.proofs.Math.Seq.{take-add}
 use Rattle.pdc_words.specs.Bytes.{AreBytes, word_at}
 use Rattle.pdc_words.specs.CheckWord.{check_word_of}
@@ -9,6 +10,14 @@ use Rattle.pdc_frame.specs.Claim.{Claims}
 use Rattle.pdc_frame.specs.Frame.{IsSized, check_in, fields_in, number_of}
 use Rattle.pdc_frame.specs.declared.frame.Kind.{Kind}
 use Rattle.pdc_frame.proofs.Places.{IsFrame-checked}
+
+-- the first word of what stands behind so many bytes
+pub word_in_front : (more bytes : List ℕ) (n : ℕ) → more ≡ drop n bytes → word_at more 0 ≡ word_at bytes n
+word_in_front more bytes n e =
+    let start : n + 0 ≡ n = omega arith in
+    let high : slice_index more 0 ≡ slice_index bytes n = ap (λ (xs : List ℕ). slice_index xs 0) e ∙ get_or-drop n bytes 0 0 ∙ ap (slice_index bytes) start in
+    let low : slice_index more 1 ≡ slice_index bytes (n + 1) = ap (λ (xs : List ℕ). slice_index xs 1) e ∙ get_or-drop n bytes 1 0 in
+    omega (arith, high, low)
 
 pub claims_of : (bytes : List ℕ) (kind : Kind) (version : ℕ) (header : List ℕ) (check : ℕ) → AreBytes bytes → IsSized bytes
     → slice_index bytes 1 ≡ 16 * number_of kind + version → (version ≡ 1) ⊎ (version ≡ 2) → 0 < word_at bytes 4 → word_at bytes 4 < 65535

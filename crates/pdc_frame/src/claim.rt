@@ -1,7 +1,7 @@
 //! A frame whose check word is not computed yet: it may follow from that of another frame.
 ghost use Rattle.std.specs.Prelude.{◌≡◌, ◌⊎◌, IfNone, IfSome};
 ghost use Rattle.pdc_words.specs.Bytes.{word_at};
-ghost use Rattle.pdc_frame.specs.Claim.{Claims, is_right};
+ghost use Rattle.pdc_frame.specs.Claim.{Claims, claim_of, is_right};
 ghost use Rattle.pdc_frame.specs.Frame.{IsSized, fields_of};
 
 use crate::frame::Frame;
@@ -28,11 +28,52 @@ impl Claim {
     }
 }
 
-/// The fields of bytes that are a frame if the check word is right, which is not computed here, with what tells whether it is. None where they
-/// are no frame whatever it is. It takes no memory.
+/// The same, lent from the bytes of the frame. The number in the place of CHK is read where it is asked for, after what stands before it: a
+/// processor fetches ahead what is read from front to end, and not where the end is read first.
+#[derive(Clone, Copy, Debug)]
+pub struct LentClaim<'a> {
+    /// SYNC, FRAMESIZE, IDCODE, SOC and FRACSEC.
+    pub header: &'a [u8; HEADER_LEN],
+    /// The bytes in the place of CHK.
+    pub check: &'a [u8; CHECK_LEN],
+}
+
+impl LentClaim<'_> {
+    /// The number in the place of CHK.
+    #[inline(always)]
+    pub fn check(&self) -> u16
+        ensures { result ≡ (claim_of self.now).check }
+    {
+        let bytes = self.check;
+        read_word(bytes, 0)
+    }
+
+    /// A copy.
+    #[inline(always)]
+    pub fn to_claim(&self) -> Claim
+        ensures { result ≡ claim_of self.now }
+    {
+        Claim {
+            header: *self.header,
+            check: self.check(),
+        }
+    }
+
+    /// Whether that is the check word, with this payload between them: it is computed over all bytes.
+    #[inline(never)]
+    pub fn is_right(&self, payload: &[u8]) -> bool
+        ensures { result ≡ is_right (claim_of self.now) payload.now }
+    {
+        check_word_of_parts(self.header, payload) == self.check()
+    }
+}
+
+/// The fields of bytes that are a frame if the check word is right, which is neither computed nor read here, with what tells whether it is. None
+/// where they are no frame whatever it is. It takes no memory.
 #[inline]
-pub fn read_claimed(bytes: &[u8]) -> Option<(Frame<'_>, Claim)>
-    ensures claims { IfSome result (λ x. Claims bytes.now (fields_of x.0) x.1) }
+pub fn read_claimed(bytes: &[u8]) -> Option<(Frame<'_>, LentClaim<'_>)>
+    ensures claims { IfSome result (λ x. Claims bytes.now (fields_of x.0)
+        (claim_of x.1)) }
     ensures none { IfNone result (IsSized bytes.now →
         (word_at bytes.now 4 ≡ 0) ⊎ (word_at bytes.now 4 ≡ 65535)) }
 {
@@ -48,13 +89,7 @@ pub fn read_claimed(bytes: &[u8]) -> Option<(Frame<'_>, Claim)>
         return None;
     }
     let header = bytes.first_chunk::<HEADER_LEN>()?;
-    let check = read_word(bytes, bytes.len() - CHECK_LEN);
+    let check = bytes.last_chunk::<CHECK_LEN>()?;
     let frame = fields_in_places(bytes, kind, version);
-    Some((
-        frame,
-        Claim {
-            header: *header,
-            check,
-        },
-    ))
+    Some((frame, LentClaim { header, check }))
 }

@@ -42,7 +42,7 @@ mod tags;
 mod writing;
 
 pub use buffer::Buffer;
-pub use claim::{Claim, read_claimed};
+pub use claim::{Claim, LentClaim, read_claimed};
 pub use command::{COMMAND_SIZE, Command, read_command, write_command};
 pub use command_fault::CommandFault;
 pub use command_laws::{commands_are_read_in_one_way, headers_are_read_in_one_way};

@@ -1,11 +1,11 @@
 //! How the merger answers what comes of a node.
-ghost use Rattle.std.specs.Prelude.{◌≡◌, ◌<◌, ◌∷◌, ◌++◌, ℕ, List, drop, true};
+ghost use Rattle.std.specs.Prelude.{◌≡◌, ◌<◌, ◌∷◌, ◌++◌, ℕ, List, drop, option_map, true};
 ghost use Rattle.pdc_table.specs.Placing.{row_at};
 ghost use Rattle.pdc_table.specs.pdc_columns.Twin.{twin_of};
 ghost use Rattle.pdc_table.specs.pdc_open_row.Twin.{IsTwinIn};
 ghost use Rattle.std.specs.Option.{ForSome};
 ghost use Rattle.pdc_frame.specs.CheckWord.{check_word_of};
-ghost use Rattle.pdc_frame.specs.Claim.{is_right};
+ghost use Rattle.pdc_frame.specs.Claim.{claim_of, is_right};
 ghost use Rattle.pdc_core.specs.KeptArrival.{data_view};
 ghost use Rattle.pdc_arrival.specs.Claimed.{claimed_data};
 ghost use Rattle.pdc_arrival.specs.Counts.{after_answer};
@@ -19,7 +19,7 @@ ghost use Rattle.pdc_merge.specs.Merger.{StandsFor};
 
 use crate::{Merger, answering};
 use pdc_align::others_are_left;
-use pdc_frame::{CheckedFront, Claim, FrameFault};
+use pdc_frame::{CheckedFront, FrameFault, LentClaim};
 use pdc_life::{Outcome, Refusal, lives_are_runs};
 use pdc_row::{Beside, check_beside};
 use pdc_table::Table;
@@ -94,8 +94,8 @@ impl<T: Table> Merger<T> {
     /// Whether the check word is right of a frame with this payload. It follows by a sum where the frame of the other node brought the same blocks
     /// for the instant.
     #[inline(always)]
-    fn check(&mut self, instant: u64, payload: &[u8], claim: &Claim) -> Beside
-        ensures right { result.is_right ≡ is_right claim.now payload.now }
+    fn check(&mut self, instant: u64, payload: &[u8], claim: &LentClaim<'_>) -> Beside
+        ensures right { result.is_right ≡ is_right (claim_of claim.now) payload.now }
         ensures twin { IsTwinIn (twin_of result.is_same (drop 14 payload.now))
             (row_at instant self.old.state.content.open_rows) }
         ensures same { self.new ≡ self.old }
@@ -117,17 +117,17 @@ impl<T: Table> Merger<T> {
         instant: u64,
         quality: u8,
         payload: &[u8],
-        claim: &Claim,
+        claim: &LentClaim<'_>,
     ) -> Outcome
         requires stream { stream < 2 }
         ensures answer { (g : Given) (E : List Entry) → StandsFor g E self.old →
             result ≡ (merged_answer g E stream
-            (claimed_data instant quality payload.now claim.now)).outcome }
+            (claimed_data instant quality payload.now (claim_of claim.now))).outcome }
         ensures stands { (g : Given) (E : List Entry) (bytes : List ℕ) →
             Says (OfMerger self.old.settings) stream bytes
-            (claimed_data instant quality payload.now claim.now) → StandsFor g E self.old →
+            (claimed_data instant quality payload.now (claim_of claim.now)) → StandsFor g E self.old →
             StandsFor g (answered merged_answer g E (ToArrive stream bytes
-            (claimed_data instant quality payload.now claim.now)) ∷ E) self.new }
+            (claimed_data instant quality payload.now (claim_of claim.now))) ∷ E) self.new }
         ensures counts { self.new.counts ≡ after_answer result self.old.counts }
         ensures popped { self.new.popped ≡ self.old.popped }
         ensures settings { self.new.settings ≡ self.old.settings }
@@ -157,17 +157,20 @@ impl<T: Table> Merger<T> {
         instant: u64,
         quality: u8,
         payload: &[u8],
-        claim: &Option<Claim>,
+        claim: &Option<LentClaim<'_>>,
     ) -> Outcome
         requires stream { stream < 2 }
         ensures answer { (g : Given) (E : List Entry) → StandsFor g E self.old →
             result ≡ (merged_answer g E stream
-            (data_view instant quality payload.now claim.now)).outcome }
+            (data_view instant quality payload.now
+            (option_map claim_of claim.now))).outcome }
         ensures stands { (g : Given) (E : List Entry) (bytes : List ℕ) →
             Says (OfMerger self.old.settings) stream bytes
-            (data_view instant quality payload.now claim.now) → StandsFor g E self.old →
+            (data_view instant quality payload.now
+            (option_map claim_of claim.now)) → StandsFor g E self.old →
             StandsFor g (answered merged_answer g E (ToArrive stream bytes
-            (data_view instant quality payload.now claim.now)) ∷ E) self.new }
+            (data_view instant quality payload.now
+            (option_map claim_of claim.now))) ∷ E) self.new }
         ensures counts { self.new.counts ≡ after_answer result self.old.counts }
         ensures popped { self.new.popped ≡ self.old.popped }
         ensures settings { self.new.settings ≡ self.old.settings }
@@ -183,8 +186,8 @@ impl<T: Table> Merger<T> {
 /// The front and the check word of a frame whose check word is right, unless its blocks are those of the other node's frame: then what goes out
 /// follows from that one.
 #[inline(always)]
-fn front_of_other(claim: &Claim, payload: &[u8], is_same: bool) -> Option<CheckedFront>
-    requires { is_right claim.now payload.now ≡ true }
+fn front_of_other(claim: &LentClaim<'_>, payload: &[u8], is_same: bool) -> Option<CheckedFront>
+    requires { is_right (claim_of claim.now) payload.now ≡ true }
     ensures { ForSome result (λ known. known.check ≡
         check_word_of (known.bytes ++ drop 14 payload.now)) }
 {

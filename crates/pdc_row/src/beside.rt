@@ -2,12 +2,12 @@
 ghost use Rattle.std.specs.Prelude.{◌≡◌, ◌++◌, IfSome, drop, length, true};
 ghost use Rattle.pdc_row.specs.KeptBlocks.{blocks_in, shapes_of};
 ghost use Rattle.pdc_row.specs.pdc_frame.CheckWord.{check_word_of};
-ghost use Rattle.pdc_row.specs.pdc_frame.Claim.{is_right};
+ghost use Rattle.pdc_row.specs.pdc_frame.Claim.{claim_of, is_right};
 ghost use Rattle.pdc_row.specs.declared.row_frame.TheConstants.{OWN_BLOCK_LEN};
 
 use crate::RowBlocks;
 use crate::row_frame::OWN_BLOCK_LEN;
-use pdc_block::{Claim, FRONT_LEN, FrontDifference, HEADER_LEN};
+use pdc_block::{FRONT_LEN, FrontDifference, HEADER_LEN, LentClaim};
 
 /// What a look at a frame beside the blocks of a row found.
 #[derive(Clone, Copy, Debug, PartialEq, Eq)]
@@ -23,18 +23,18 @@ pub struct Beside {
 /// `difference` is kept from frame to frame. Else it is computed.
 #[inline(always)]
 pub fn check_beside(
-    claim: &Claim,
+    claim: &LentClaim<'_>,
     payload: &[u8],
     blocks: &RowBlocks,
     difference: &mut FrontDifference,
 ) -> Beside
-    ensures right { result.is_right ≡ is_right claim.now payload.now }
+    ensures right { result.is_right ≡ is_right (claim_of claim.now) payload.now }
     ensures same { result.is_same ≡ true →
         blocks_in (shapes_of blocks.now) (drop OWN_BLOCK_LEN payload.now) ≡ blocks.now }
 {
-    match check_of_same(&claim.header, payload, blocks, difference) {
+    match check_of_same(claim.header, payload, blocks, difference) {
         Some(check) => Beside {
-            is_right: check == claim.check,
+            is_right: check == claim.check(),
             is_same: true,
         },
         None => Beside {
