@@ -64,7 +64,7 @@ impl Lanes {
         if self.is_one {
             self.one
         } else {
-            self.each.as_slice()[place]
+            held_at(self.each.as_slice(), place)
         }
     }
 
@@ -74,6 +74,18 @@ impl Lanes {
         ensures { IfSome result (λ one. self.now ≡ replicate (length self.now) one) }
     {
         if self.is_one { Some(self.one) } else { None }
+    }
+
+    /// What is held of each column, where it is not known to be the same.
+    #[inline(always)]
+    pub(crate) fn each(&self) -> Option<&[Held]>
+        ensures { IfSome result (λ each. each.now ≡ self.now) }
+    {
+        if self.is_one {
+            None
+        } else {
+            Some(self.each.as_slice())
+        }
     }
 
     /// Makes this what is held of the column at this place.
@@ -130,6 +142,15 @@ impl Lanes {
             forget_lane(self.each.as_mut_slice(), lane);
         }
     }
+}
+
+/// What is held of the column at this place, in a list of what is held of each.
+#[inline(always)]
+pub(crate) fn held_at(each: &[Held], place: usize) -> Held
+    requires { place < length each.now }
+    ensures { result ≡ slice_index_or each.now place nothing }
+{
+    each[place]
 }
 
 /// Writes what is held of all but one column to each, and this of that one.

@@ -15,7 +15,7 @@ ghost use Rattle.pdc_columns.specs.Giving.{blocks_of, qualities_of};
 
 use crate::MAX_COLUMNS;
 use crate::column::{Chosen, Held};
-use crate::lanes::Lanes;
+use crate::lanes::{Lanes, held_at};
 use pdc_row::{RowBlocks, Shape};
 
 /// The worst time quality. A row in which no block is present has it.
@@ -77,7 +77,7 @@ pub fn worst_of_one(quality: u8, first: &RowBlocks) -> u32
 }
 
 /// How many columns from the front on are known to give a present block of lane 0, and the number above the worst quality of these. Nearly always
-/// that is the whole row, and then no block is looked at again.
+/// that is the whole row, and then no block is looked at again. Where the same is held of each column, none is looked at here.
 #[inline(always)]
 fn front_of_first(held: &Lanes, first: &RowBlocks) -> (usize, u32)
     requires { length first.now ≡ length held.now }
@@ -92,9 +92,30 @@ fn front_of_first(held: &Lanes, first: &RowBlocks) -> (usize, u32)
     ensures most { result.0 ≤ length first.now }
     ensures fits { result.1 ≤ WORST_QUALITY + 1 }
 {
+    match held.each() {
+        Some(each) => front_of_each(each, first),
+        None => (0, 0),
+    }
+}
+
+/// The same of columns of which this is held.
+#[inline(always)]
+fn front_of_each(held: &[Held], first: &RowBlocks) -> (usize, u32)
+    requires { length first.now ≡ length held.now }
+    ensures blocks { (second : List BlockView) → length second ≡ length held.now →
+        take result.0 (blocks_of (map Some (shapes_of first.now))
+        (columns_of held.now first.now second)) ++ drop result.0 first.now ≡ first.now }
+    ensures quality { (second : List BlockView) → length second ≡ length held.now →
+        worst_of (worst_kept result.1) (qualities_of (drop result.0
+        (map Some (shapes_of first.now))) (drop result.0 (columns_of held.now first.now second)))
+        ≡ quality_of (qualities_of (map Some (shapes_of first.now))
+        (columns_of held.now first.now second)) }
+    ensures most { result.0 ≤ length first.now }
+    ensures fits { result.1 ≤ WORST_QUALITY + 1 }
+{
     let mut above = 0;
     for place in 0..first.len() {
-        let here = held.at(place);
+        let here = held_at(held, place);
         if !here.first {
             return (place, above);
         }

@@ -4,7 +4,7 @@ use Rattle.pdc_row.specs.KeptBlocks.{shapes_of}
 use Rattle.pdc_row.specs.Quality.{quality_of, worst_of}
 use Rattle.pdc_columns.specs.ColumnParts.{columns_of, worst_kept}
 use Rattle.pdc_columns.specs.Giving.{blocks_of, qualities_of}
-use Rattle.pdc_columns.proofs.row_blocks.front_of_first.Given as goal
+use Rattle.pdc_columns.proofs.row_blocks.front_of_each.Given as goal
 
 -- as many as were looked at give the present block of lane 0
 abbrev pub invariant-loop-place : goal.invariant-loop-place
