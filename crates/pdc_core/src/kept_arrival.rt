@@ -1,5 +1,6 @@
 //! What arrived, with its bytes kept: it can be handed on where what was read would not live.
-ghost use Rattle.std.specs.Prelude.{◌≡◌, ◌≤◌, [], ◌∷◌, IfOk, IsOk, None, OnErr, OnOk, false, length, map, option_map, true};
+ghost use Rattle.std.specs.Prelude.{◌≡◌, ◌≤◌, [], ◌∷◌, IfOk, IsOk, None, OnErr, OnOk, false, length};
+ghost use Rattle.std.specs.Prelude.{map, option_map, true};
 ghost use Rattle.pdc_align.specs.pdc_frame.Claim.{claim_of};
 ghost use Rattle.pdc_core.specs.KeptArrival.{data_view, kept_part, taken_view, takes_no_memory};
 ghost use Rattle.pdc_core.specs.KeptArrival.{wanted_of};
@@ -13,7 +14,8 @@ ghost use Rattle.pdc_align.specs.pdc_life.Views.{arrival_view as reading_view};
 use crate::{KeptLayout, KeptSection, LentData, Payload, SHORT_PAYLOAD, ShortPayload};
 use arrayvec::ArrayVec;
 use pdc_align::{
-    Arrival, Claim, ColumnSection, FrameFault, Held, MAX_PMUS, Reading, Refusal, SectionView,
+    Arrival, Claim, ColumnSection, FrameFault, Held, LentClaim, MAX_PMUS, Reading, Refusal,
+    SectionView,
 };
 use std::alloc::{AllocError, Global};
 
@@ -116,6 +118,17 @@ fn data_view<'a>(instant: u64, quality: u8, payload: &'a [u8], claim: &Option<Cl
         instant,
         quality,
         payload,
+    }
+}
+
+/// Keeps what tells whether the check word is right, where it is not computed yet. For data of a PMU that is one byte, and no more is written.
+#[inline(always)]
+fn keep_claim(kept: &mut Option<Claim>, lent: &Option<LentClaim<'_>>)
+    ensures { kept.new ≡ option_map claim_of lent.now }
+{
+    match lent {
+        Some(claim) => *kept = Some(claim.to_claim()),
+        None => *kept = None,
     }
 }
 
@@ -235,7 +248,7 @@ impl KeptArrival {
             if payload.set(lent.payload) {
                 *instant = lent.instant;
                 *quality = lent.quality;
-                *claim = lent.kept_claim();
+                keep_claim(claim, &lent.claim);
                 return true;
             }
         }
