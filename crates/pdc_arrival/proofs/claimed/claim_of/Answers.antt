@@ -1,4 +1,5 @@
 use Rattle.std.proofs.Common.{◌≡◌, ℕ, refl, subst}
+use Rattle.pdc_life.specs.pdc_frame.Claim.{claim_of}
 use Rattle.pdc_life.specs.pdc_frame.Frame.{fields_of}
 use Rattle.pdc_life.specs.pdc_frame.Instant.{IsInstant}
 use Rattle.pdc_life.specs.pdc_frame.declared.frame.Kind.TheVariants.{DataFrame}
@@ -11,4 +12,4 @@ returns c =
     let kind : frame.kind ≡ DataFrame = c.in-DataFrame.is in
     let tag : IsInstant frame.soc frame.frac c.args.node.now.time_base c.args.settings.now.output.rate c.in_ok-instant.instant =
     subst (λ (rate : ℕ). IsInstant frame.soc frame.frac c.args.node.now.time_base rate c.in_ok-instant.instant) c.from-rate.ensures ((c.in_ok-instant.ensures.instant c.in_ok-instant.instant).0 refl) in
-    claimed_reads c.args.settings.now c.args.node.now c.args.bytes.now (fields_of frame) c.in_ok-frame.claim c.in_ok-instant.instant c.in_ok-frame.ensures.claims c.if-frame-node.false kind tag
+    claimed_reads c.args.settings.now c.args.node.now c.args.bytes.now (fields_of frame) (claim_of c.in_ok-frame.claim) c.in_ok-instant.instant c.in_ok-frame.ensures.claims c.if-frame-node.false kind tag
