@@ -25,8 +25,8 @@ pub use fault::BodyFault;
 pub use laws::{bodies_are_their_words, payloads_are_cut_in_one_way, words_are_cut};
 pub use pdc_cfg::{
     Buffer, CHECK_LEN, CfgFault, CheckedFront, Claim, ConfigView, FRONT_LEN, Frame, FrameFault,
-    FrontDifference, HEADER_LEN, Kind, LentClaim, MAX_SECTION_LEN, MAX_WORDS, OVERHEAD, Second,
-    Section, SectionView, Shape, StreamId, begin_frame, configurations_are_read_in_one_way,
+    FrontDifference, HEADER_LEN, Kind, LentClaim, LentFront, MAX_SECTION_LEN, MAX_WORDS, OVERHEAD,
+    Second, Section, SectionView, Shape, StreamId, begin_frame, configurations_are_read_in_one_way,
     end_frame, frames_are_read_in_one_way, frames_are_written_in_parts, instant,
     instant_is_nearest, read_claimed, read_config, read_frame, read_word, tag_is_nearest, tag_of,
     write_config, write_ends, write_fields,

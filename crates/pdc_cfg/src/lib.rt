@@ -21,7 +21,7 @@ pub use fault::CfgFault;
 pub use laws::configurations_are_read_in_one_way;
 pub use pdc_frame::{
     Buffer, CHECK_LEN, CheckedFront, Claim, FRONT_LEN, Frame, FrameFault, FrontDifference,
-    HEADER_LEN, Kind, LentClaim, OVERHEAD, Second, StreamId, begin_frame, end_frame,
+    HEADER_LEN, Kind, LentClaim, LentFront, OVERHEAD, Second, StreamId, begin_frame, end_frame,
     frames_are_read_in_one_way, frames_are_written_in_parts, instant, instant_is_nearest,
     parts_keep_their_words, read_claimed, read_frame, read_word, tag_is_nearest, tag_of,
     words_are_their_bytes, write_ends, write_fields,

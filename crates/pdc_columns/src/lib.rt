@@ -27,8 +27,8 @@ pub use limits::{MAX_COLUMNS, MAX_LANES};
 pub use parts::{Cut, Part};
 pub use pdc_memory::{Held, HeldBox, HeldQueue};
 pub use pdc_row::{
-    Block, Body, CheckedFront, CopyFrom, DueRow, KnownFront, MAX_WINDOW, MIN_WINDOW, RowBlocks,
-    Shape, Shapes, copy_block, copy_each, numbers_rise, words_are_cut,
+    Block, Body, CheckedFront, CopyFrom, DueRow, KnownFront, LentFront, MAX_WINDOW, MIN_WINDOW,
+    RowBlocks, Shape, Shapes, copy_block, copy_each, numbers_rise, words_are_cut,
 };
 pub use row_blocks::WORST_QUALITY;
 pub use row_layout::RowLayout;

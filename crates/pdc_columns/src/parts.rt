@@ -6,6 +6,7 @@ ghost use Rattle.std.specs.Option.{ForSome};
 ghost use Rattle.pdc_row.specs.CellView.{CellView};
 ghost use Rattle.pdc_row.specs.pdc_block.Block.{words_in};
 ghost use Rattle.pdc_row.specs.pdc_frame.CheckWord.{check_word_of};
+ghost use Rattle.pdc_row.specs.pdc_frame.Fronts.{front_of};
 ghost use Rattle.pdc_row.specs.pdc_cfg.declared.shape.Shape.{Shape as ShapeData};
 ghost use Rattle.pdc_columns.specs.Parts.{cut_cells, laid_out, parts_len};
 ghost use Rattle.pdc_columns.specs.Taking.{any_second, body_cells_of, conflicts, with_cells};
@@ -14,7 +15,7 @@ ghost use Rattle.pdc_columns.specs.Twin.{twin_of};
 use crate::MAX_COLUMNS;
 use crate::blocks::Blocks;
 use crate::columns::Columns;
-use pdc_row::{Body, CheckedFront, Shape, Shapes, words_are_cut};
+use pdc_row::{Body, LentFront, Shape, Shapes, words_are_cut};
 
 /// What a block of a payload is: its column, and its shape.
 pub trait Part {
@@ -41,14 +42,14 @@ pub struct Cut<'a, P: Part> {
     /// The words of all, each with its high byte first.
     pub bytes: &'a [u8],
     /// The front and the check word of the frame in which they came, if they are known: they stand between the two.
-    pub sent: Option<&'a CheckedFront>,
+    pub sent: Option<&'a LentFront<'a>>,
     /// Whether it was seen that they are those that the lowest lane holds which holds any, of the instant for which they are put.
     pub is_twin: bool,
     pub ghost told: { option_map (λ shapes. shapes.now) laid ≡
         laid_out P.column_of P.shape_of parts.now },
     pub ghost whole: { length bytes.now ≡ parts_len P.shape_of parts.now },
-    pub ghost known: { ForSome sent (λ known. known.now.check ≡
-        check_word_of (known.now.bytes ++ bytes.now)) },
+    pub ghost known: { ForSome sent (λ known. (front_of known.now).check ≡
+        check_word_of ((front_of known.now).bytes ++ bytes.now)) },
 }
 
 impl<P: Part> Blocks for Cut<'_, P> {

@@ -10,6 +10,7 @@ pub mod Command
 pub mod HeldBytes
 pub use Rattle.pdc_words.specs.Bytes
 pub use Rattle.pdc_words.specs.CheckWord
+pub use Rattle.pdc_words.specs.Fronts
 pub use Rattle.pdc_words.specs.Linear
 pub use Rattle.pdc_words.specs.Lanes
 pub use Rattle.pdc_words.specs.Parts

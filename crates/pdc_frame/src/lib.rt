@@ -59,7 +59,7 @@ pub use limits::{
     CHECK_LEN, HEADER_LEN, MAX_FRAC, MAX_ID, MAX_PAYLOAD, MAX_SIZE, MAX_VERSION, OVERHEAD,
 };
 pub use pdc_words::{
-    CheckedFront, FRONT_LEN, FrontDifference, check_word, check_word_is_the_remainder,
+    CheckedFront, FRONT_LEN, FrontDifference, LentFront, check_word, check_word_is_the_remainder,
     check_word_of_other, check_words_are_linear, moved_past, parts_keep_their_words, power_past,
     read_long, read_word, words_are_their_bytes,
 };

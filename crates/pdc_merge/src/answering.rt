@@ -7,6 +7,7 @@ ghost use Rattle.pdc_align.specs.Align.{StandsFor, Unchanged};
 ghost use Rattle.pdc_block.specs.Block.{words_in};
 ghost use Rattle.pdc_cfg.specs.Section.{SectionFields};
 ghost use Rattle.pdc_frame.specs.CheckWord.{check_word_of};
+ghost use Rattle.pdc_frame.specs.Fronts.{front_of};
 ghost use Rattle.pdc_life.specs.pdc_row.declared.limits.TheConstants.{MAX_PMUS};
 ghost use Rattle.pdc_life.specs.Answer.{answered, outcome_in_time, with_cells, ToArrive};
 ghost use Rattle.pdc_life.specs.Arrival.{Data, Layout};
@@ -33,7 +34,7 @@ use pdc_arrival::{
     Arrival, ColumnSection, OWN_BLOCK_LEN, Stamp, bears, differs, is_candidate, layout_answer,
 };
 use pdc_block::words_are_cut;
-use pdc_frame::CheckedFront;
+use pdc_frame::LentFront;
 use pdc_life::{Outcome, Refusal};
 use pdc_table::{Cut, Table, new_room};
 
@@ -100,7 +101,7 @@ fn put_data<T: Table>(
     instant: u64,
     quality: u8,
     payload: &[u8],
-    sent: Option<&CheckedFront>,
+    sent: Option<&LentFront<'_>>,
     is_twin: bool,
 ) -> Outcome
     requires each { length alignment.old.state.columns ≡ alignment.old.state.content.columns }
@@ -109,8 +110,8 @@ fn put_data<T: Table>(
     requires in_place { AreInPlace (length alignment.old.state.columns) layout.now.sections }
     requires size { length payload.now ≡ OWN_BLOCK_LEN + blocks_len layout.now.sections }
     requires in_force { is_in_force ≡ are_in_force alignment.old.state layout.now.sections }
-    requires sent { ForSome sent (λ known. known.now.check ≡
-        check_word_of (known.now.bytes ++ drop 14 payload.now)) }
+    requires sent { ForSome sent (λ known. (front_of known.now).check ≡
+        check_word_of ((front_of known.now).bytes ++ drop 14 payload.now)) }
     requires twin { IsTwinIn (twin_of is_twin (drop 14 payload.now))
         (row_at instant alignment.old.state.content.open_rows) }
     ensures answer { (g : Given) (E : List Entry) → StandsFor g E alignment.old.state →
@@ -149,7 +150,7 @@ fn answer_under<T: Table>(
     instant: u64,
     quality: u8,
     payload: &[u8],
-    sent: Option<&CheckedFront>,
+    sent: Option<&LentFront<'_>>,
     is_twin: bool,
 ) -> Outcome
     requires each { length alignment.old.state.columns ≡ alignment.old.state.content.columns }
@@ -157,8 +158,8 @@ fn answer_under<T: Table>(
     requires stream { stream < 2 }
     requires in_place { AreInPlace (length alignment.old.state.columns) layout.now.sections }
     requires in_force { is_in_force ≡ are_in_force alignment.old.state layout.now.sections }
-    requires sent { ForSome sent (λ known. known.now.check ≡
-        check_word_of (known.now.bytes ++ drop 14 payload.now)) }
+    requires sent { ForSome sent (λ known. (front_of known.now).check ≡
+        check_word_of ((front_of known.now).bytes ++ drop 14 payload.now)) }
     requires twin { IsTwinIn (twin_of is_twin (drop 14 payload.now))
         (row_at instant alignment.old.state.content.open_rows) }
     ensures answer { (g : Given) (E : List Entry) → StandsFor g E alignment.old.state →
@@ -308,14 +309,14 @@ pub fn answer_data<T: Table>(
     instant: u64,
     quality: u8,
     payload: &[u8],
-    sent: Option<&CheckedFront>,
+    sent: Option<&LentFront<'_>>,
     is_twin: bool,
 ) -> Outcome
     requires ready { IsReady alignment.old.state layouts.now }
     requires known { in_force ≡ layouts_in_force alignment.old.state layouts.now }
     requires stream { stream < 2 }
-    requires sent { ForSome sent (λ known. known.now.check ≡
-        check_word_of (known.now.bytes ++ drop 14 payload.now)) }
+    requires sent { ForSome sent (λ known. (front_of known.now).check ≡
+        check_word_of ((front_of known.now).bytes ++ drop 14 payload.now)) }
     requires twin { IsTwinIn (twin_of is_twin (drop 14 payload.now))
         (row_at instant alignment.old.state.content.open_rows) }
     ensures answer { (g : Given) (E : List Entry) → StandsFor g E alignment.old.state →

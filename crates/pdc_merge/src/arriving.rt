@@ -5,6 +5,7 @@ ghost use Rattle.pdc_table.specs.pdc_columns.Twin.{twin_of};
 ghost use Rattle.pdc_table.specs.pdc_open_row.Twin.{IsTwinIn};
 ghost use Rattle.std.specs.Option.{ForSome};
 ghost use Rattle.pdc_frame.specs.CheckWord.{check_word_of};
+ghost use Rattle.pdc_frame.specs.Fronts.{front_of};
 ghost use Rattle.pdc_frame.specs.Claim.{claim_of, is_right};
 ghost use Rattle.pdc_core.specs.KeptArrival.{data_view};
 ghost use Rattle.pdc_arrival.specs.Claimed.{claimed_data};
@@ -19,7 +20,7 @@ ghost use Rattle.pdc_merge.specs.Merger.{StandsFor};
 
 use crate::{Merger, answering};
 use pdc_align::others_are_left;
-use pdc_frame::{CheckedFront, FrameFault, LentClaim};
+use pdc_frame::{FrameFault, LentClaim, LentFront};
 use pdc_life::{Outcome, Refusal, lives_are_runs};
 use pdc_row::{Beside, check_beside};
 use pdc_table::Table;
@@ -34,12 +35,12 @@ impl<T: Table> Merger<T> {
         instant: u64,
         quality: u8,
         payload: &[u8],
-        sent: Option<&CheckedFront>,
+        sent: Option<&LentFront<'_>>,
         is_twin: bool,
     ) -> Outcome
         requires stream { stream < 2 }
-        requires sent { ForSome sent (λ known. known.now.check ≡
-            check_word_of (known.now.bytes ++ drop 14 payload.now)) }
+        requires sent { ForSome sent (λ known. (front_of known.now).check ≡
+            check_word_of ((front_of known.now).bytes ++ drop 14 payload.now)) }
         requires twin { IsTwinIn (twin_of is_twin (drop 14 payload.now))
             (row_at instant self.old.state.content.open_rows) }
         ensures answer { (g : Given) (E : List Entry) → StandsFor g E self.old →
@@ -186,10 +187,14 @@ impl<T: Table> Merger<T> {
 /// The front and the check word of a frame whose check word is right, unless its blocks are those of the other node's frame: then what goes out
 /// follows from that one.
 #[inline(always)]
-fn front_of_other(claim: &LentClaim<'_>, payload: &[u8], is_same: bool) -> Option<CheckedFront>
+fn front_of_other<'a>(
+    claim: &LentClaim<'a>,
+    payload: &'a [u8],
+    is_same: bool,
+) -> Option<LentFront<'a>>
     requires { is_right (claim_of claim.now) payload.now ≡ true }
-    ensures { ForSome result (λ known. known.check ≡
-        check_word_of (known.bytes ++ drop 14 payload.now)) }
+    ensures { ForSome result (λ known. (front_of known).check ≡
+        check_word_of ((front_of known).bytes ++ drop 14 payload.now)) }
 {
     if is_same { None } else { claim.front(payload) }
 }

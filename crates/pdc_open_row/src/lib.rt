@@ -16,8 +16,8 @@ pub use open_row::{OpenRow, Places};
 pub use outcome::PutOutcome;
 pub use pdc_columns::{
     Block, Blocks, Body, CheckedFront, CopyFrom, Cut, DueRow, Held, HeldBox, HeldQueue, KnownFront,
-    Listed, MAX_COLUMNS, MAX_LANES, MAX_WINDOW, MIN_WINDOW, Part, RowBlocks, RowLayout, Shape,
-    Shapes, WORST_QUALITY, copy_block, copy_each, copy_items, numbers_rise, words_are_cut,
+    LentFront, Listed, MAX_COLUMNS, MAX_LANES, MAX_WINDOW, MIN_WINDOW, Part, RowBlocks, RowLayout,
+    Shape, Shapes, WORST_QUALITY, copy_block, copy_each, copy_items, numbers_rise, words_are_cut,
 };
 pub use streams::falses;
 pub use wait_rule::WaitRule;

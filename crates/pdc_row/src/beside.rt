@@ -7,7 +7,7 @@ ghost use Rattle.pdc_row.specs.declared.row_frame.TheConstants.{OWN_BLOCK_LEN};
 
 use crate::RowBlocks;
 use crate::row_frame::OWN_BLOCK_LEN;
-use pdc_block::{FRONT_LEN, FrontDifference, HEADER_LEN, LentClaim};
+use pdc_block::{FrontDifference, HEADER_LEN, LentClaim};
 
 /// What a look at a frame beside the blocks of a row found.
 #[derive(Clone, Copy, Debug, PartialEq, Eq)]
@@ -57,26 +57,10 @@ fn check_of_same(
         blocks_in (shapes_of blocks.now) (drop OWN_BLOCK_LEN payload.now) ≡ blocks.now) }
 {
     let known = blocks.sent()?;
-    if payload.len() < OWN_BLOCK_LEN {
-        return None;
-    }
-    let (own, rest) = payload.split_at(OWN_BLOCK_LEN);
+    let own = payload.first_chunk::<OWN_BLOCK_LEN>()?;
+    let rest = &payload[OWN_BLOCK_LEN..];
     if !blocks.has_bytes(rest) {
         return None;
     }
-    let front = front_of_parts(header, own);
-    Some(difference.check_behind(known, &front, rest))
-}
-
-/// A header, and the own block behind it.
-#[inline(always)]
-fn front_of_parts(header: &[u8; HEADER_LEN], own: &[u8]) -> [u8; FRONT_LEN]
-    requires { length own.now ≡ OWN_BLOCK_LEN }
-    ensures { result ≡ header.now ++ own.now }
-{
-    let mut front = [0; FRONT_LEN];
-    let (head, tail) = front.split_at_mut(HEADER_LEN);
-    head.copy_from_slice(header);
-    tail.copy_from_slice(own);
-    front
+    Some(difference.check_behind_parts(known, header, own, rest))
 }

@@ -43,8 +43,8 @@ pub use output::{Nominal, Output};
 pub use output_laws::{layouts_are_frames, own_sections_tell_stamps, rows_are_frames};
 pub use pdc_block::{
     Block, Body, Buffer, CHECK_LEN, CfgFault, CheckedFront, Claim, ConfigView, FRONT_LEN, Frame,
-    FrameFault, FrontDifference, HEADER_LEN, Kind, LentClaim, MAX_SECTION_LEN, OVERHEAD, Section,
-    SectionView, Shape, StreamId, append_words, begin_frame, bodies_are_their_words,
+    FrameFault, FrontDifference, HEADER_LEN, Kind, LentClaim, LentFront, MAX_SECTION_LEN, OVERHEAD,
+    Section, SectionView, Shape, StreamId, append_words, begin_frame, bodies_are_their_words,
     configurations_are_read_in_one_way, end_frame, frames_are_read_in_one_way,
     frames_are_written_in_parts, instant, instant_is_nearest, read_body, read_claimed, read_config,
     read_frame, read_word, words_are_cut, write_config, write_ends, write_fields,

@@ -12,6 +12,7 @@ ghost use Rattle.pdc_row.specs.KeptBlocks.{AreWhole, blocks_in, bytes_of, shapes
 ghost use Rattle.pdc_row.specs.Shown.{MayBeShown, ShowsAt};
 ghost use Rattle.pdc_row.specs.declared.row_frame.TheConstants.{OWN_BLOCK_LEN};
 ghost use Rattle.pdc_row.specs.pdc_frame.Frame.{fields_of, header_of};
+ghost use Rattle.pdc_row.specs.pdc_frame.Fronts.{front_of};
 ghost use Rattle.pdc_row.specs.pdc_frame.declared.limits.TheConstants.{OVERHEAD};
 ghost use Rattle.pdc_row.specs.declared.limits.TheConstants.{MAX_PMUS};
 
@@ -23,7 +24,9 @@ use crate::row_frame::OWN_BLOCK_LEN;
 use crate::shapes::{are_each_same, are_same};
 use crate::{CopyFrom, KnownFront, Offered, Shapes};
 use arrayvec::ArrayVec;
-use pdc_block::{Block, Body, CheckedFront, Frame, Shape, absent, bodies_are_their_words, cut};
+use pdc_block::{
+    Block, Body, CheckedFront, Frame, LentFront, Shape, absent, bodies_are_their_words, cut,
+};
 use std::fmt;
 use std::fmt::{Debug, Formatter};
 use std::marker::Model;
@@ -284,14 +287,14 @@ impl RowBlocks {
     /// Writes these bytes, which are as many, over those of the blocks, of which each keeps its shape. Where the front and the check word are
     /// known of the frame in which they came, they are kept with them.
     #[inline(always)]
-    pub fn write_over(&mut self, bytes: &[u8], sent: Option<&CheckedFront>)
+    pub fn write_over(&mut self, bytes: &[u8], sent: Option<&LentFront<'_>>)
         requires size { length bytes.now ≡ sum_by body_len_of (shapes_of self.old) }
-        requires sent { ForSome sent (λ known. known.now.check ≡
-            check_word_of (known.now.bytes ++ bytes.now)) }
+        requires sent { ForSome sent (λ known. (front_of known.now).check ≡
+            check_word_of ((front_of known.now).bytes ++ bytes.now)) }
         ensures { self.new ≡ blocks_in (shapes_of self.old) bytes.now }
     {
         self.room.write_first(bytes);
-        self.sent.set(sent);
+        self.sent.set_lent(sent);
     }
 
     /// The front and the check word of the frame in which they came, where they all came in one and that is known: so the check word follows of

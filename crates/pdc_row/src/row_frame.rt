@@ -199,6 +199,7 @@ fn ends_anew(output: &Output, row: &mut DueRow, tag: (u32, u32)) -> RowEnds
 /// What stands before and behind the blocks in the data frame of the row, as [`append_row`] appends it: with that round them, they are the
 /// frame. Where they came in one frame whose check word is known, that of this frame follows from it, and from what the fronts of both differ
 /// in; that and the second are kept from row to row. It takes no memory.
+#[inline(never)]
 pub fn ends_of(output: &Output, row: &mut DueRow, last: &mut LastRow) -> RowEnds
     requires { row.old.instant < SECONDS * output.now.rate }
     ensures same { row_view row.new ≡ row_view row.old }

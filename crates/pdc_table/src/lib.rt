@@ -32,9 +32,9 @@ pub use laws::{
     rows_close_where_due, rows_come_out_rising,
 };
 pub use pdc_open_row::{
-    Blocks, CheckedFront, CopyFrom, Cut, DueRow, Held, HeldBox, KnownFront, Listed, MAX_COLUMNS,
-    MAX_LANES, MAX_WINDOW, MIN_WINDOW, OpenRow, Part, Places, PutOutcome, RowBlocks, RowLayout,
-    Shapes, WaitRule, copy_block, copy_each, copy_items, falses,
+    Blocks, CheckedFront, CopyFrom, Cut, DueRow, Held, HeldBox, KnownFront, LentFront, Listed,
+    MAX_COLUMNS, MAX_LANES, MAX_WINDOW, MIN_WINDOW, OpenRow, Part, Places, PutOutcome, RowBlocks,
+    RowLayout, Shapes, WaitRule, copy_block, copy_each, copy_items, falses,
 };
 pub use ring_table::RingTable;
 pub use spare::spare_row;

@@ -54,3 +54,10 @@ xor_bytes-at [] other i d inside other_inside = absurd (omega (arith, inside))
 xor_bytes-at (a ∷ front) [] i d inside other_inside = absurd (omega (arith, other_inside))
 xor_bytes-at (a ∷ front) (b ∷ other) zero d inside other_inside = refl
 xor_bytes-at (a ∷ front) (b ∷ other) (suc i) d inside other_inside = xor_bytes-at front other i d (omega (arith, inside)) (omega (arith, other_inside))
+
+-- parts that stand one behind the other differ part by part
+pub xor_bytes-append : (a b c d : List ℕ) → length a ≡ length c → xor_bytes (a ++ b) (c ++ d) ≡ xor_bytes a c ++ xor_bytes b d
+xor_bytes-append [] b [] d len = refl
+xor_bytes-append [] b (y ∷ c) d len = absurd (omega (arith, len))
+xor_bytes-append (x ∷ a) b [] d len = absurd (omega (arith, len))
+xor_bytes-append (x ∷ a) b (y ∷ c) d len = ap (λ (xs : List ℕ). bit_xor x y ∷ xs) (xor_bytes-append a b c d (omega (arith, len)))

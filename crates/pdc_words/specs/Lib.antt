@@ -1,4 +1,5 @@
 pub mod Bytes
+pub mod Fronts
 pub mod CheckWord
 pub mod Linear
 pub mod Lanes

@@ -18,7 +18,7 @@ mod words;
 pub use crc::check_word;
 pub use crc_behind::{BYTES_BEFORE_PAYLOAD, check_word_behind, check_word_of_parts};
 pub use crc_moved::{check_word_of_other, moved_past, power_past};
-pub use fronts::{CheckedFront, FRONT_LEN, FrontDifference};
+pub use fronts::{CheckedFront, FRONT_LEN, FrontDifference, LentFront, PART_LEN};
 pub use laws::{
     check_word_is_the_remainder, check_words_are_linear, parts_keep_their_words,
     words_are_their_bytes,

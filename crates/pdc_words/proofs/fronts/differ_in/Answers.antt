@@ -15,10 +15,10 @@ loop-place-preserved c =
     let differs : ℕ = bit_xor (get_or one i 0) (get_or other i 0) in
     let byte : ℕ = get_or c.args.bytes.now i 0 in
     let parts = or_parts c.loop-place.differ (not (eqb differs byte)) none in
-    let in_one : i < length one = omega (arith, c.loop-place-test.true, c.told-one) in
-    let in_other : i < length other = omega (arith, c.loop-place-test.true, c.told-other) in
-    let inside : i < length (xor_bytes one other) = omega (arith, in_one, xor_bytes-length one other (c.told-one ∙ sym c.told-other)) in
-    take_more_same (xor_bytes one other) c.args.bytes.now i 0 inside (omega (arith, c.loop-place-test.true, c.told-bytes)) (c.loop-place.invariant parts.0)
+    let in_one : i < length one = omega (arith, c.loop-place-test.true) in
+    let in_other : i < length other = omega (arith, c.loop-place-test.true, c.requires.other) in
+    let inside : i < length (xor_bytes one other) = omega (arith, in_one, xor_bytes-length one other (sym c.requires.other)) in
+    take_more_same (xor_bytes one other) c.args.bytes.now i 0 inside (omega (arith, c.loop-place-test.true, c.requires.bytes)) (c.loop-place.invariant parts.0)
     (xor_bytes-at one other i 0 in_one in_other ∙ eqb-true differs byte (not-false (eqb differs byte) parts.1))
 
 pub returns : goal.returns
@@ -27,6 +27,6 @@ returns c =
     let one : List ℕ = c.args.one.now in
     let other : List ℕ = c.args.other.now in
     let i : ℕ = c.loop-place.place in
-    sym (take_all i (xor_bytes one other) (omega (arith, c.told-one, c.loop-place-test.false, xor_bytes-length one other (c.told-one ∙ sym c.told-other))))
+    sym (take_all i (xor_bytes one other) (omega (arith, c.loop-place-test.false, xor_bytes-length one other (sym c.requires.other))))
     ∙ c.loop-place.invariant (not-true c.loop-place.differ e)
-    ∙ take_all i c.args.bytes.now (omega (arith, c.told-bytes, c.loop-place-test.false))
+    ∙ take_all i c.args.bytes.now (omega (arith, c.requires.bytes, c.loop-place-test.false))

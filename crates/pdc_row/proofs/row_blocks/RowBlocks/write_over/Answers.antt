@@ -1,11 +1,13 @@
 use Rattle.std.proofs.Common.{◌≡◌, ◌∙◌, ◌++◌, Bor, List, None, Option, Some, ap, arith, drop, length, refl, subst, sym, take, ℕ}
-use Rattle.std.specs.Option.{ForSome, option_copied}
-use Rattle.std.specs.Prelude.{IfSome, sum_by}
+use Rattle.std.specs.Option.{ForSome}
+use Rattle.std.specs.Prelude.{IfSome, option_map, sum_by}
 use Rattle.std.proofs.lemmas.List.{take_at}
 use Rattle.pdc_block.specs.pdc_cfg.declared.shape.Shape.{Shape}
 use Rattle.pdc_block.specs.Block.{body_len_of}
 use Rattle.pdc_block.specs.declared.CheckedFront.{CheckedFront}
+use Rattle.pdc_block.specs.declared.LentFront.{LentFront}
 use Rattle.pdc_block.specs.pdc_frame.CheckWord.{check_word_of}
+use Rattle.pdc_block.specs.pdc_frame.Fronts.{front_of}
 use Rattle.pdc_row.specs.KeptBlocks.{blocks_in, shapes_of}
 use Rattle.pdc_row.specs.KnownFront.{known_of}
 use Rattle.pdc_row.proofs.KeptLemmas.{shapes_are}
@@ -13,12 +15,12 @@ use Rattle.pdc_row.proofs.Rooms.{first_long}
 use Rattle.pdc_row.proofs.row_blocks.RowBlocks.write_over.Goals as goal
 
 -- what is lent is kept, and the rest is these bytes
-kept_as_lent : (rest bytes : List ℕ) (lent : Option (Bor CheckedFront)) (own : Option CheckedFront) → own ≡ option_copied lent → rest ≡ bytes → ForSome lent (λ known. known.now.check ≡ check_word_of (known.now.bytes ++ bytes))
+kept_as_lent : (rest bytes : List ℕ) (lent : Option (Bor LentFront)) (own : Option CheckedFront) → own ≡ option_map (λ (f : Bor LentFront). front_of f.now) lent → rest ≡ bytes → ForSome lent (λ known. (front_of known.now).check ≡ check_word_of ((front_of known.now).bytes ++ bytes))
     → IfSome own (λ known. known.check ≡ check_word_of (known.bytes ++ rest))
 kept_as_lent rest bytes None own same e h = subst (λ (o : Option CheckedFront). IfSome o (λ known. known.check ≡ check_word_of (known.bytes ++ rest))) (sym same) tt
 kept_as_lent rest bytes (Some known) own same e h =
     subst (λ (o : Option CheckedFront). IfSome o (λ known. known.check ≡ check_word_of (known.bytes ++ rest))) (sym same)
-    (h known refl ∙ ap (λ (xs : List ℕ). check_word_of (known.now.bytes ++ xs)) (sym e))
+    (h known refl ∙ ap (λ (xs : List ℕ). check_word_of ((front_of known.now).bytes ++ xs)) (sym e))
 
 pub write_first-requires : goal.write_first-requires
 write_first-requires c =
@@ -50,7 +52,7 @@ invariant_of-self c =
       size = c.self.invariant.size;
       begun = c.self.invariant.begun;
       sent =
-          kept_as_lent _ bytes c.args.sent (known_of c.set.new.self) c.set.ensures
+          kept_as_lent _ bytes c.args.sent (known_of c.set_lent.new.self) c.set_lent.ensures
           (ap (take i.len) c.write_first.ensures ∙ take_at bytes (drop (length bytes) i.room) i.len long)
           c.requires.sent;
       room = ap length c.write_first.ensures ∙ first_long bytes i.room (omega (arith, long, c.self.invariant.fits, c.self.invariant.room)) ∙ c.self.invariant.room;
