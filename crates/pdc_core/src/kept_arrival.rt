@@ -121,7 +121,8 @@ fn data_view<'a>(instant: u64, quality: u8, payload: &'a [u8], claim: &Option<Cl
     }
 }
 
-/// Keeps what tells whether the check word is right, where it is not computed yet. For data of a PMU that is one byte, and no more is written.
+/// Keeps what tells whether the check word is right, where it is not computed yet. Each arm writes to where it is kept: a value between would be
+/// read back before it is written.
 #[inline(always)]
 fn keep_claim(kept: &mut Option<Claim>, lent: &Option<LentClaim<'_>>)
     ensures { kept.new ≡ option_map claim_of lent.now }

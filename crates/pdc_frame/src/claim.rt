@@ -1,6 +1,7 @@
 //! A frame whose check word is not computed yet: it may follow from that of another frame.
-ghost use Rattle.std.specs.Prelude.{◌≡◌, ◌⊎◌, IfNone, IfSome};
+ghost use Rattle.std.specs.Prelude.{◌≡◌, ◌==◌, ◌++◌, ◌⊎◌, IfNone, IfSome};
 ghost use Rattle.pdc_words.specs.Bytes.{word_at};
+ghost use Rattle.pdc_words.specs.CheckWord.{check_word_of};
 ghost use Rattle.pdc_frame.specs.Claim.{Claims, claim_of, is_right};
 ghost use Rattle.pdc_frame.specs.Frame.{IsSized, fields_of};
 
@@ -20,11 +21,11 @@ pub struct Claim {
 
 impl Claim {
     /// Whether that is the check word, with this payload between them: it is computed over all bytes.
-    #[inline(never)]
+    #[inline(always)]
     pub fn is_right(&self, payload: &[u8]) -> bool
         ensures { result ≡ is_right self.now payload.now }
     {
-        check_word_of_parts(&self.header, payload) == self.check
+        is_check_word(self.check, &self.header, payload)
     }
 }
 
@@ -60,12 +61,21 @@ impl LentClaim<'_> {
     }
 
     /// Whether that is the check word, with this payload between them: it is computed over all bytes.
-    #[inline(never)]
+    #[inline(always)]
     pub fn is_right(&self, payload: &[u8]) -> bool
         ensures { result ≡ is_right (claim_of self.now) payload.now }
     {
-        check_word_of_parts(self.header, payload) == self.check()
+        is_check_word(self.check(), self.header, payload)
     }
+}
+
+/// Whether this is the check word of a header and a payload. A call of its own, which is handed what it reads and no claim: so a claim need not
+/// lie in memory.
+#[inline(never)]
+fn is_check_word(check: u16, header: &[u8; HEADER_LEN], payload: &[u8]) -> bool
+    ensures { result ≡ (check_word_of (header.now ++ payload.now) == check) }
+{
+    check_word_of_parts(header, payload) == check
 }
 
 /// The fields of bytes that are a frame if the check word is right, which is neither computed nor read here, with what tells whether it is. None

@@ -255,7 +255,10 @@ impl<T: Table> Core for Node<T> {
     fn arrive_lent(&mut self, stream: usize, lent: &LentData<'_>) -> Outcome {
         match lent.claim {
             None => self.arrive_data(stream, lent.instant, lent.quality, lent.payload),
-            Some(_) => self.arrive_claimed(stream, lent),
+            Some(_) => {
+                let data = *lent;
+                self.arrive_claimed(stream, &data)
+            }
         }
     }
 

@@ -7,7 +7,7 @@ ghost use Rattle.pdc_publisher.specs.PublishedRow.{frame_in, row_of};
 
 use crate::published_row::PublishedRow;
 use pdc_memory::HeldBox;
-use pdc_row::{DueRow, LastRow, Output, ends_of};
+use pdc_row::{DueRow, LastRow, Output, RowEnds, ends_of};
 
 /// The row as its data frame. What helps the next one is kept in `last`.
 pub(crate) fn framed(output: &Output, row: HeldBox<DueRow>, last: &mut LastRow) -> PublishedRow
@@ -17,7 +17,8 @@ pub(crate) fn framed(output: &Output, row: HeldBox<DueRow>, last: &mut LastRow) 
 {
     let mut row = row;
     row.get().blocks.are_whole();
-    let ends = ends_of(output, row.get_mut(), last);
+    let mut ends = RowEnds::blank();
+    ends_of(output, row.get_mut(), last, &mut ends);
     PublishedRow {
         output: *output,
         row,

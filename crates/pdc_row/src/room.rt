@@ -29,6 +29,17 @@ pub struct RowEnds {
     pub check: [u8; CHECK_LEN],
 }
 
+impl RowEnds {
+    /// Ends of no meaning, to be written over.
+    #[inline(always)]
+    pub fn blank() -> RowEnds {
+        RowEnds {
+            front: [0; FRONT_LEN],
+            check: [0; CHECK_LEN],
+        }
+    }
+}
+
 /// The memory of a row's frame. What stands in it behind the place of the front is what it says: the blocks are written there, to the places
 /// that they have in the frame, and so it goes out where it is.
 #[derive(Drop)]
@@ -125,29 +136,33 @@ impl Room {
         self.bytes[FRONT_LEN..FRONT_LEN + bytes.len()].copy_from_slice(bytes);
     }
 
-    /// What stands before and behind so many bytes in a frame with the fields of `head` and this own block. Its check word is computed over all of
-    /// it.
-    pub fn ends_of(&mut self, head: &Frame, own: &[u8; OWN_BLOCK_LEN], len: usize) -> RowEnds
+    /// Writes over these ends what stands before and behind so many bytes in a frame with the fields of `head` and this own block. Its check word
+    /// is computed over all of it.
+    pub fn ends_of(
+        &mut self,
+        head: &Frame,
+        own: &[u8; OWN_BLOCK_LEN],
+        len: usize,
+        ends: &mut RowEnds,
+    )
         requires { len ≤ MAX_BLOCKS_LEN }
         ensures same { self.new ≡ self.old }
-        ensures front { result.front ≡
+        ensures front { ends.new.front ≡
             header_of (fields_of head.now) (OWN_BLOCK_LEN + len + OVERHEAD) ++ own.now }
-        ensures check { result.check ≡ to_be_bytes w16 (check_word_of
+        ensures check { ends.new.check ≡ to_be_bytes w16 (check_word_of
             (header_of (fields_of head.now) (OWN_BLOCK_LEN + len + OVERHEAD)
             ++ (own.now ++ take len self.old))) }
     {
         self.bytes[HEADER_LEN..FRONT_LEN].copy_from_slice(own);
-        let mut front = [0; FRONT_LEN];
-        let mut check = [0; CHECK_LEN];
+        let RowEnds { front, check } = ends;
         let (fields, tail) = front.split_at_mut(HEADER_LEN);
         write_ends(
             head,
             &self.bytes[HEADER_LEN..FRONT_LEN + len],
             fields,
-            &mut check,
+            check,
         );
         tail.copy_from_slice(own);
-        RowEnds { front, check }
     }
 
     /// Writes these ends before and behind so many bytes, and shows that as it stands there.

@@ -331,18 +331,19 @@ impl RowBlocks {
         bytes
     }
 
-    /// What stands before and behind them in a frame with the fields of `head` and this own block. Its check word is computed over all of it.
-    pub fn ends_of(&mut self, head: &Frame, own: &[u8; OWN_BLOCK_LEN]) -> RowEnds
+    /// Writes over these ends what stands before and behind them in a frame with the fields of `head` and this own block. Its check word is
+    /// computed over all of it.
+    pub fn ends_of(&mut self, head: &Frame, own: &[u8; OWN_BLOCK_LEN], ends: &mut RowEnds)
         ensures same { self.new ≡ self.old }
-        ensures front { result.front ≡ header_of (fields_of head.now)
+        ensures front { ends.new.front ≡ header_of (fields_of head.now)
             (OWN_BLOCK_LEN + length (bytes_of self.old) + OVERHEAD) ++ own.now }
-        ensures check { result.check ≡ to_be_bytes w16 (check_word_of
+        ensures check { ends.new.check ≡ to_be_bytes w16 (check_word_of
             (header_of (fields_of head.now) (OWN_BLOCK_LEN + length (bytes_of self.old) + OVERHEAD)
             ++ (own.now ++ bytes_of self.old))) }
     {
         bodies_are_their_words();
         are_bytes(self.room.first(self.len));
-        self.room.ends_of(head, own, self.len)
+        self.room.ends_of(head, own, self.len, ends);
     }
 
     /// Writes these ends before and behind the blocks, and shows all that as it stands there, with a value that is lent. It takes no memory.

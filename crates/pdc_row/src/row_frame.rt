@@ -154,8 +154,8 @@ fn write_front(output: &Output, row: &DueRow, tag: (u32, u32), front: &mut [u8; 
     write_own_block(row.start, row.change, own);
 }
 
-/// What stands before and behind the blocks in the data frame of the row, where the front and the check word are known of a frame with the
-/// same blocks.
+/// Writes over these ends what stands before and behind the blocks in the data frame of the row, where the front and the check word are known
+/// of a frame with the same blocks.
 #[inline(always)]
 fn ends_behind(
     output: &Output,
@@ -163,54 +163,54 @@ fn ends_behind(
     tag: (u32, u32),
     known: &CheckedFront,
     difference: &mut FrontDifference,
-) -> RowEnds
+    ends: &mut RowEnds,
+)
     requires tag { tag ≡ tag_of row.now.instant output.now.time_base output.now.rate }
     requires count { tag.1 < output.now.time_base }
     requires known { known.now.check ≡
         check_word_of (known.now.bytes ++ bytes_of row.now.blocks) }
-    ensures front { result.front ≡ front_of_row output.now (row_view row.now) }
-    ensures check { result.check ≡ to_be_bytes w16 (check_word_of
+    ensures front { ends.new.front ≡ front_of_row output.now (row_view row.now) }
+    ensures check { ends.new.check ≡ to_be_bytes w16 (check_word_of
         (front_of_row output.now (row_view row.now) ++ bytes_of row.now.blocks)) }
 {
-    let mut front = [0; FRONT_LEN];
-    write_front(output, row, tag, &mut front);
-    let check = difference.check_behind(known, &front, row.blocks.bytes());
-    RowEnds {
-        front,
-        check: check.to_be_bytes(),
-    }
+    let RowEnds { front, check } = ends;
+    write_front(output, row, tag, front);
+    let word = difference.check_behind(known, front, row.blocks.bytes());
+    *check = word.to_be_bytes();
 }
 
 /// The same, where the check word is computed over all of it.
-fn ends_anew(output: &Output, row: &mut DueRow, tag: (u32, u32)) -> RowEnds
+#[inline(always)]
+fn ends_anew(output: &Output, row: &mut DueRow, tag: (u32, u32), ends: &mut RowEnds)
     requires tag { tag ≡ tag_of row.old.instant output.now.time_base output.now.rate }
     requires count { tag.1 < output.now.time_base }
     ensures same { row_view row.new ≡ row_view row.old }
-    ensures front { result.front ≡ front_of_row output.now (row_view row.old) }
-    ensures check { result.check ≡ to_be_bytes w16 (check_word_of
+    ensures front { ends.new.front ≡ front_of_row output.now (row_view row.old) }
+    ensures check { ends.new.check ≡ to_be_bytes w16 (check_word_of
         (front_of_row output.now (row_view row.old) ++ bytes_of row.old.blocks)) }
 {
     let head = head_of(output, row, tag);
     let mut own = [0; OWN_BLOCK_LEN];
     write_own_block(row.start, row.change, &mut own);
-    row.blocks.ends_of(&head, &own)
+    row.blocks.ends_of(&head, &own, ends);
 }
 
-/// What stands before and behind the blocks in the data frame of the row, as [`append_row`] appends it: with that round them, they are the
-/// frame. Where they came in one frame whose check word is known, that of this frame follows from it, and from what the fronts of both differ
-/// in; that and the second are kept from row to row. It takes no memory.
+/// Writes over these ends what stands before and behind the blocks in the data frame of the row, as [`append_row`] appends it: with that round
+/// them, they are the frame. Where they came in one frame whose check word is known, that of this frame follows from it, and from what the fronts
+/// of both differ in; that and the second are kept from row to row. It takes no memory.
 #[inline(never)]
-pub fn ends_of(output: &Output, row: &mut DueRow, last: &mut LastRow) -> RowEnds
+pub fn ends_of(output: &Output, row: &mut DueRow, last: &mut LastRow, ends: &mut RowEnds)
     requires { row.old.instant < SECONDS * output.now.rate }
     ensures same { row_view row.new ≡ row_view row.old }
-    ensures wire { result.front ++ (bytes_of row.old.blocks ++ result.check) ≡
+    ensures wire { ends.new.front ++ (bytes_of row.old.blocks ++ ends.new.check) ≡
         wire_of output.now (row_view row.old) }
 {
     let tag = last
         .second
         .tag_of(row.instant, output.time_base, u32::from(output.rate));
     if let Some(known) = row.blocks.sent() {
-        return ends_behind(output, row, tag, known, &mut last.difference);
+        ends_behind(output, row, tag, known, &mut last.difference, ends);
+    } else {
+        ends_anew(output, row, tag, ends);
     }
-    ends_anew(output, row, tag)
 }
