@@ -221,6 +221,7 @@ impl OpenRow {
     }
 
     /// Whether every required stream was taken, or the wait is over, at this age.
+    #[inline(always)]
     pub fn is_due(&self, age: u64, required: &[bool], rule: WaitRule) -> bool
         ensures { result ≡ is_due required.now rule (at_age age self.now) }
     {

@@ -14,6 +14,7 @@ impl WaitRule {
     ghost use Rattle.pdc_open_row.specs.Due.{is_over};
 
     /// Whether the wait of an instant of this age, in ticks, is over.
+    #[inline(always)]
     pub fn is_over(self, age: u64, instant: u64) -> bool
         ensures { result ≡ is_over self age instant }
     {
